@@ -3,7 +3,8 @@
 #![tactic(auto)]
 
 ghost use Rattle.std.specs.Prelude.{◌≡◌, ℕ, ◌+◌, ◌-◌, ◌<◌, ◌≤◌, ◌^◌, min, List, ◌++◌, length, take, map, sum_by, slice_index, string_bytes, IfOk};
-ghost use Rattle.std.specs.List.{flat_map, AllZip};
+ghost use Rattle.std.specs.List.{flat_map, AllByRecursion, AllZip};
+ghost use Rattle.std.specs.Str.Lossy.{utf8_lossy};
 ghost use Rattle.encoding_runs.specs.Repairs.{IsLossyDecodeOf, IsLossyDecodeWith};
 ghost use Rattle.cuts_example.specs.Cuts.{EndsWithAscii, MayBeCutAfter, AreCut, IsRepairOf, AreMalformedSequencesOf, following};
 
@@ -34,6 +35,14 @@ pub fn law_cut()
         → IsLossyDecodeWith (piece ++ more) (text ++ others) (n + m) }
 {
     law_parts();
+    law_cuts();
+}
+
+/// The repaired text of lines is that of each line, one after another. Each ends with an ASCII byte, such as a line feed.
+pub fn law_lines()
+    ensures { (lines : List (List ℕ)) → AllByRecursion EndsWithAscii lines
+        → utf8_lossy (flat_map (λ line. line) lines) ≡ flat_map utf8_lossy lines }
+{
     law_cuts();
 }
 

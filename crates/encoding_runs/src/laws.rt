@@ -71,7 +71,8 @@ pub fn law_parts()
 
 /// Bytes may be cut where the final parts of the first piece leave no rest: the parts of the whole are those of the
 /// first piece, then those of the second. So the pieces can be repaired separately: their repaired texts join, and
-/// their counts of malformed sequences add up. Bytes that end with an ASCII byte leave no rest.
+/// their counts of malformed sequences add up. Bytes that end with an ASCII byte leave no rest. So the text that
+/// `String::from_utf8_lossy` makes of a line and what follows it is that of the line, then that of what follows.
 pub fn law_cuts()
     ensures parts { (bs more : List ℕ) (parts others all : List Part) → AreFinal bs parts []
         → ArePartsOf more others → ArePartsOf (bs ++ more) all → all ≡ parts ++ others }
@@ -83,6 +84,8 @@ pub fn law_cuts()
         → malformed_count all ≡ malformed_count parts + malformed_count others }
     ensures after_ascii { (bs rest : List ℕ) (b : ℕ) (parts : List Part) → b < 128
         → AreFinal (bs ++ b ∷ []) parts rest → rest ≡ [] }
+    ensures lines { (line more : List ℕ) (b : ℕ) → b < 128
+        → utf8_lossy ((line ++ b ∷ []) ++ more) ≡ utf8_lossy (line ++ b ∷ []) ++ utf8_lossy more }
 {}
 
 /// Repeated calls of `next_malformed`, each on the bytes after the sequence found before, find exactly the malformed
@@ -159,8 +162,9 @@ pub fn law_mixed_calls()
 {}
 
 /// UTF-16 code units have exactly one list of parts. With U+FFFD for each unpaired surrogate, they are those of std's
-/// lossy decoding. The parts of the UTF-16 of scalar values are these scalar values, so text converted to UTF-16 and
-/// back to UTF-8 is the same, byte for byte. Unicode Standard, section 3.9, UTF-16.
+/// lossy decoding, and their UTF-8 is a well-formed text: that of these scalar values. The parts of the UTF-16 of scalar
+/// values are these scalar values, so text converted to UTF-16 and back to UTF-8 is the same, byte for byte. Unicode
+/// Standard, section 3.9, UTF-16.
 pub fn law_utf16_round_trip()
     ensures exist { (us : List ℕ) → AreCodeUnits us
         → (parts : List Part16) × ArePartsOf16 us parts }
@@ -175,6 +179,8 @@ pub fn law_utf16_round_trip()
     ensures text { (bs : List ℕ) (parts : List Part16) → IsUtf8 bs
         → ArePartsOf16 (flat_map encode_utf16 (chars bs)) parts
         → flat_map utf8_of_part16 parts ≡ bs }
+    ensures utf8 { (us text : List ℕ) → IsUtf8OfUnits us text
+        → IsUtf8 text × (text ≡ encode_utf8_all (utf16_lossy_chars us)) }
 {}
 
 /// Repeated conversion of the longest fitting prefix of the remaining code units, until all are read, writes the UTF-8

@@ -1,6 +1,7 @@
 //! An encoder run by turns, each with a small piece and a small destination.
 
-ghost use Rattle.std.specs.Prelude.{◌≡◌, ℕ, List, length, map, IfOk, Some, None};
+ghost use Rattle.std.specs.Prelude.{◌≡◌, ℕ, List, length, map, IfOk, Some, None, encode_utf8_all, string_bytes};
+ghost use Rattle.std.specs.Char.Utf16.{utf16_lossy_chars};
 ghost use Rattle.std.specs.List.{last_or};
 ghost use Rattle.encoding_text.specs.Utf16.{AreCodeUnits, IsUtf8OfUnits};
 ghost use Rattle.encoding_text.specs.declared.utf_8.encoder.EncoderResult.{EncoderResult};
@@ -56,6 +57,17 @@ pub fn utf8_by_turns(alloc: Global, units: &[u16]) -> Result<Vec<u8>, AllocError
     let outcome = run_from_utf16(&mut encoder, units, &turns, &mut bytes);
     bytes.truncate(outcome.written);
     Ok(bytes)
+}
+
+/// Returns the same bytes as a text: that of `String::from_utf16_lossy`. An `Err` means that an allocation failed.
+pub fn text_by_turns(alloc: Global, units: &[u16]) -> Result<String, AllocError>
+    ensures { IfOk result
+        (λ text. string_bytes text ≡ encode_utf8_all (utf16_lossy_chars units.now)) }
+{
+    law_utf16_round_trip();
+    let bytes = utf8_by_turns(alloc, units)?;
+    // The UTF-8 of code units is well-formed, so no second look at it is needed.
+    Ok(unsafe { String::from_utf8_unchecked(bytes) })
 }
 
 /// If turns are enough for all of the code units, the last call returns `InputEmpty`. The bytes are those of any other

@@ -1,7 +1,7 @@
 //! Blocks of UTF-16 from pieces of UTF-8, and back. And code units repaired in place, their UTF-8, at once and by
 //! turns, and whether they have right-to-left characters.
 
-use engine_example::turns::utf8_by_turns;
+use engine_example::turns::{text_by_turns, utf8_by_turns};
 use engine_example::units::{
     has_right_to_left, is_repaired, is_text, text_has_right_to_left, utf8_of_units,
 };
@@ -103,6 +103,8 @@ fn repairs_and_writes_each_row(rt: HostRuntime) -> Result<(), Fail> {
         assert!(rt; bytes.as_slice() == text.as_bytes(), "UTF-8 of {text}");
         let bytes = utf8_by_turns(rt.alloc(), &own)?;
         assert!(rt; bytes.as_slice() == text.as_bytes(), "{text} by turns");
+        let by_turns = text_by_turns(rt.alloc(), &own)?;
+        assert!(rt; by_turns.as_str() == *text, "the text {text} by turns");
         assert!(rt;
             is_text(&own) == (*units == *repaired),
             "valid units of {text}"

@@ -1,5 +1,7 @@
+use Rattle.std.proofs.Common.{◌∙◌, ap, encode_utf8_all}
 use Rattle.encoding_definitions.proofs.Utf16Lemmas.{parts_of, parts_exist, parts_unique}
-use Rattle.encoding_definitions.proofs.Utf16LawLemmas.{parts-encode, scalars-encode, scalars_lossy, text_back}
+use Rattle.encoding_definitions.proofs.Utf16LawLemmas.{parts-encode, scalars-encode, scalars_lossy, text_back, utf8_of_all}
+use Rattle.encoding_definitions.proofs.Utf16PrefixLemmas.{IsUtf8-units}
 use Rattle.encoding_runs.proofs.laws.law_utf16_round_trip.Goals as goal
 
 pub returns : goal.returns
@@ -10,4 +12,5 @@ returns c = record {
   characters = parts-encode;
   scalars = scalars-encode;
   text = text_back;
+  utf8 = λ us text u. (IsUtf8-units us text u, u.written ∙ utf8_of_all u.parts ∙ ap encode_utf8_all (scalars_lossy us u.parts u.are_parts));
 }
