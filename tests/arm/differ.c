@@ -160,10 +160,13 @@ static void convert_bytes(void)
     LENGTH(mem_convert_str_to_utf16, any_bytes, uint16_t, 1);
     LENGTH(mem_convert_str_to_utf16_unchecked, sound_bytes, uint16_t, 1);
     PROGRESS(mem_convert_utf8_to_utf16_without_replacement, any_bytes, uint16_t, 1);
+    PROGRESS(mem_convert_utf8_to_utf16_partial, any_bytes, uint16_t, 1);
     PROGRESS(convert_utf8_to_utf16_up_to_invalid, any_bytes, uint16_t, 1);
     PROGRESS(decode_utf16le, any_bytes, uint16_t, 1);
     PROGRESS(decode_utf16be, any_bytes, uint16_t, 1);
     CONVERT(repair_slice, any_bytes, uint8_t, 3, (add(got.written), add(got.replaced)));
+    CONVERT(repair_slice_partial, any_bytes, uint8_t, 3,
+            (add(got.read), add(got.written), add(got.replaced), add(got.finished)));
 }
 
 static void convert_units(void)
