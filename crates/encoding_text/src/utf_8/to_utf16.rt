@@ -91,9 +91,8 @@ fn convert_short_text(src: &[u8], dst: &mut [u16]) -> usize
 }
 
 /// Converts at most 64 bytes to UTF-16 as `convert_utf8_to_utf16_up_to_invalid` does, if `dst` is at least as long. Two vectors
-/// copy ASCII. Otherwise the longest well-formed prefix of at least eight bytes is found first, and then converted. Out of line,
-/// so that the ASCII of longer text needs few registers.
-#[inline(never)]
+/// copy ASCII. Otherwise the longest well-formed prefix of at least eight bytes is found first, and then converted.
+#[inline(always)]
 fn convert_short_prefix(src: &[u8], dst: &mut [u16]) -> (usize, usize)
     requires src_length { length src.now ≤ 64 }
     requires dst_length { length src.now ≤ length dst.old }
@@ -103,7 +102,7 @@ fn convert_short_prefix(src: &[u8], dst: &mut [u16]) -> (usize, usize)
         return (src.len(), src.len());
     }
     if src.len() < HALF_STRIDE {
-        return convert_turns(src, dst);
+        return convert_after_ascii(src, dst);
     }
     let valid = short_valid_up_to_beyond_ascii(src);
     if valid == src.len() {
@@ -180,15 +179,12 @@ fn convert_turns(src: &[u8], dst: &mut [u16]) -> (usize, usize)
     }
 }
 
-/// Converts UTF-8 to UTF-16 up to the first byte that is in no character, or as far as whole characters fit. Returns
-/// how many bytes it read and how many code units it wrote. `dst` may have any length.
-#[inline(always)]
-pub fn convert_utf8_to_utf16_up_to_invalid(src: &[u8], dst: &mut [u16]) -> (usize, usize)
+/// Converts UTF-8 to UTF-16 as `convert_utf8_to_utf16_up_to_invalid` does: the ASCII prefix, and what follows it by turns. Out of
+/// line, so that a short text needs no more registers than it uses.
+#[inline(never)]
+fn convert_after_ascii(src: &[u8], dst: &mut [u16]) -> (usize, usize)
     ensures { ConvertsMaximal encode_utf16 src.now dst.old dst.new result.0 result.1 }
 {
-    if src.len() <= BLOCK && src.len() <= dst.len() {
-        return convert_short_prefix(src, dst);
-    }
     let ascii = copy_to_basic_latin_inline(src, dst);
     if ascii == src.len() {
         return (ascii, ascii);
@@ -199,6 +195,18 @@ pub fn convert_utf8_to_utf16_up_to_invalid(src: &[u8], dst: &mut [u16]) -> (usiz
     }
     let (read, written) = convert_turns(&src[ascii..], &mut dst[ascii..]);
     (ascii + read, ascii + written)
+}
+
+/// Converts UTF-8 to UTF-16 up to the first byte that is in no character, or as far as whole characters fit. Returns
+/// how many bytes it read and how many code units it wrote. `dst` may have any length.
+#[inline(always)]
+pub fn convert_utf8_to_utf16_up_to_invalid(src: &[u8], dst: &mut [u16]) -> (usize, usize)
+    ensures { ConvertsMaximal encode_utf16 src.now dst.old dst.new result.0 result.1 }
+{
+    if src.len() <= BLOCK && src.len() <= dst.len() {
+        return convert_short_prefix(src, dst);
+    }
+    convert_after_ascii(src, dst)
 }
 
 /// Copies UTF-8 up to the first byte that is in no character, or as far as whole characters fit. Returns how many bytes

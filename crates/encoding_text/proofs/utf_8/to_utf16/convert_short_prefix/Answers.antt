@@ -25,8 +25,8 @@ pub returns-then-src-lt-HALF_STRIDE : goal.returns-then-src-lt-HALF_STRIDE
 returns-then-src-lt-HALF_STRIDE c =
     let same = c.unpack_short.ensures.unchanged c.if-unpack_short.false in
     subst
-    (λ old. ConvertsMaximal encode_utf16 c.args.src.now old c.convert_turns.new.dst c.convert_turns.result.0 c.convert_turns.result.1) same
-    c.convert_turns.ensures
+    (λ old. ConvertsMaximal encode_utf16 c.args.src.now old c.convert_after_ascii.new.dst c.convert_after_ascii.result.0 c.convert_after_ascii.result.1) same
+    c.convert_after_ascii.ensures
 
 pub convert_short-requires-clause-text : goal.convert_short-requires-clause-text
 convert_short-requires-clause-text c =

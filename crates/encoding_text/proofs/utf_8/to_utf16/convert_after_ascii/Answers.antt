@@ -2,7 +2,7 @@ use Rattle.std.proofs.Common.{◌-◌, ◌≤◌, arith, length, length-take, le
 use Rattle.std.specs.Char.Escape.{encode_utf16}
 use Rattle.std.proofs.lemmas.List.{take_rest}
 use Rattle.encoding_text.proofs.ConvertingLemmas.{converted_first_ascii, converted_rejected, converts_all, converts_longest, converts_prefix, converts_rest}
-use Rattle.encoding_text.proofs.utf_8.to_utf16.convert_utf8_to_utf16_up_to_invalid.Goals as goal
+use Rattle.encoding_text.proofs.utf_8.to_utf16.convert_after_ascii.Goals as goal
 
 pub returns-then-ascii-src : goal.returns-then-ascii-src
 returns-then-ascii-src c =
