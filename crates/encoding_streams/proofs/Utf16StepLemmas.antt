@@ -93,6 +93,24 @@ module _ {A : Type 0} (order : ByteOrder) (encode : ℕ → List A) where
   )
 
   -- ---- the call ends after what was read
+  -- all was read, and nothing is pending
+  pub all_after : (need : ℕ) (p src : List ℕ) (old new : List A) (last : Bool) (read written : ℕ) → IsPendingUtf16 order p
+      → Advances order encode p src old new read written [] → read ≡ length src
+      → DecodeUtf16StepInto order encode need p src old new last InputEmpty read written []
+  all_after need p src old new last read written before a e = (
+    flat_map encode a.scalars,
+    a.writes,
+    record {
+      scalars = a.scalars;
+      are_scalars = a.are_scalars;
+      out_is = refl;
+      fits = omega (arith, a.writes.count, a.writes.fits);
+      pending_before = before;
+      pending = pending_nil order;
+      answer = (e, ap (λ xs. p ++ xs) (sym (take_all read src (omega (arith, e)))) ∙ a.spelled, λ _. refl);
+    },
+  )
+
   -- a character that doesn't fit comes next, and nothing is pending
   pub full_after : (need : ℕ) (p src : List ℕ) (old new : List A) (last : Bool) (read written : ℕ) → IsPendingUtf16 order p
       → Advances order encode p src old new read written [] → BeginsTooLong order encode (drop read src) (length old - written)

@@ -21,8 +21,15 @@ use pending::Pending;
 use std::marker::Model;
 use window::{First, WINDOW, first_of};
 
-/// How many code units are decoded at a time.
-const BLOCK: usize = 64;
+/// How many code units are decoded at a time from a source of no more: a call pays for clearing the array that they are
+/// in.
+const SHORT_BLOCK: usize = 64;
+
+/// How many are decoded at a time from a longer source of no more than these.
+const MIDDLE_BLOCK: usize = 256;
+
+/// How many are decoded at a time from any other source.
+const LONG_BLOCK: usize = 1024;
 
 /// A streaming decoder of UTF-16LE or UTF-16BE, whose input may be split at any byte. Its pending bytes, which it keeps
 /// between calls, are none or the start of a character: a high surrogate, the first byte of a code unit, or both. In
@@ -186,6 +193,11 @@ fn decode<U: CodeUnit>(
         if full {
             return (DecoderResult::OutputFull, read, written);
         }
+        if read == src.len() {
+            if pending.is_empty() {
+                return (DecoderResult::InputEmpty, read, written);
+            }
+        }
         let (result, more, extra) = resume(order, pending, &src[read..], &mut dst[written..], last);
         read += more;
         written += extra;
@@ -213,18 +225,40 @@ fn convert_neutral<U: CodeUnit>(
     if !pending.is_empty() {
         return (0, 0, false);
     }
-    convert_blocks(order, src, dst)
+    convert_units(order, src, dst)
 }
 
-/// Converts whole characters from the start of `src`, up to the first that doesn't fit, or before an unpaired surrogate
-/// or the end. Returns how many bytes it read, how many code units it wrote, and whether the next character doesn't fit.
+/// Converts as `convert_blocks` does, by blocks whose length suits the source.
 #[inline(always)]
-fn convert_blocks<U: CodeUnit>(order: ByteOrder, src: &[u8], dst: &mut [U]) -> (usize, usize, bool)
+fn convert_units<U: CodeUnit>(order: ByteOrder, src: &[u8], dst: &mut [U]) -> (usize, usize, bool)
     ensures characters { Advances order U.encode [] src.now dst.old dst.new result.0 result.1 [] }
     ensures full { IsTrue result.2 → BeginsTooLong order U.encode (drop result.0 src.now)
         (length dst.old - result.1) }
 {
-    let mut units = [0; BLOCK];
+    if src.len() <= 2 * SHORT_BLOCK {
+        return convert_blocks::<U, SHORT_BLOCK>(order, src, dst);
+    }
+    if src.len() <= 2 * MIDDLE_BLOCK {
+        return convert_blocks::<U, MIDDLE_BLOCK>(order, src, dst);
+    }
+    convert_blocks::<U, LONG_BLOCK>(order, src, dst)
+}
+
+/// Converts whole characters from the start of `src`, `N` code units at a time, up to the first that doesn't fit, or
+/// before an unpaired surrogate or the end. Returns how many bytes it read, how many code units it wrote, and whether
+/// the next character doesn't fit.
+#[inline(never)]
+fn convert_blocks<U: CodeUnit, const N: usize>(
+    order: ByteOrder,
+    src: &[u8],
+    dst: &mut [U],
+) -> (usize, usize, bool)
+    requires block { N ≤ 1024 }
+    ensures characters { Advances order U.encode [] src.now dst.old dst.new result.0 result.1 [] }
+    ensures full { IsTrue result.2 → BeginsTooLong order U.encode (drop result.0 src.now)
+        (length dst.old - result.1) }
+{
+    let mut units = [0; N];
     let mut read = 0;
     let mut written = 0;
     while read < src.len() {

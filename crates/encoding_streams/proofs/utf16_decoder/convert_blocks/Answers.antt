@@ -28,3 +28,6 @@ returns-then-full-clause-full g c = λ _.
 pub returns-then-more-eq0-clause-characters : goal.returns-then-more-eq0-clause-characters
 returns-then-more-eq0-clause-characters g c =
     advance_then c.args.order g.U.CodeUnit.encode [] [] [] c.args.src.now _ _ _ _ _ _ _ c.loop-read.invariant c.convert_block-more.ensures.characters
+
+pub whole_as_slice-convert_block : goal.whole_as_slice-convert_block
+whole_as_slice-convert_block g c = omega arith

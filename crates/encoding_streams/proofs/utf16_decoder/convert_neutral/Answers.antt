@@ -11,12 +11,12 @@ pub returns-clause-characters : goal.returns-clause-characters
 returns-clause-characters g c =
     let none : c.args.pending.now ≡ [] = c.is_empty.ensures.0 c.if-not-is_empty.false in
     subst
-    (λ q. Advances c.args.order g.U.CodeUnit.encode q c.args.src.now c.args.dst.now c.convert_blocks.new.dst c.convert_blocks.result.0
-    c.convert_blocks.result.1 q)
-    (sym none) c.convert_blocks.ensures.characters
+    (λ q. Advances c.args.order g.U.CodeUnit.encode q c.args.src.now c.args.dst.now c.convert_units.new.dst c.convert_units.result.0
+    c.convert_units.result.1 q)
+    (sym none) c.convert_units.ensures.characters
 
 pub returns-clause-none : goal.returns-clause-none
 returns-clause-none g c = λ some. absurd (some (c.is_empty.ensures.0 c.if-not-is_empty.false))
 
 pub returns-clause-full : goal.returns-clause-full
-returns-clause-full g c = λ full. (c.is_empty.ensures.0 c.if-not-is_empty.false, c.convert_blocks.ensures.full full)
+returns-clause-full g c = λ full. (c.is_empty.ensures.0 c.if-not-is_empty.false, c.convert_units.ensures.full full)

@@ -1,7 +1,7 @@
 use Rattle.std.proofs.Common.{◌≡◌, ◌≢◌, ◌+◌, ◌-◌, [], length, refl, sym, subst, ◌∙◌, arith}
 use Rattle.encoding_streams.specs.Utf16Parts.{IsPendingUtf16}
 use Rattle.encoding_streams.proofs.Utf16ByteLemmas.{pending_nil}
-use Rattle.encoding_streams.proofs.Utf16StepLemmas.{advance_none, advance_then, too_long_after, full_after, ends_after}
+use Rattle.encoding_streams.proofs.Utf16StepLemmas.{advance_none, advance_then, too_long_after, all_after, full_after, ends_after}
 use Rattle.encoding_streams.proofs.utf16_decoder.decode.Goals as goal
 
 pub loop-order-init : goal.loop-order-init
@@ -29,6 +29,15 @@ returns-then-full g c =
     let first = advance_then order encode _ _ _ c.args.src.now _ _ _ _ _ _ _ kept.advanced converted.characters in
     let next = too_long_after order encode c.args.src.now _ _ _ _ _ _ _ kept.advanced.writes full.1 in
     rw full.0 (full_after order encode g.U.CodeUnit.need _ _ _ _ _ _ _ c.requires.pending (rw full.0 at first) next)
+
+pub returns-then-is_empty : goal.returns-then-is_empty
+returns-then-is_empty g c =
+    let order = c.args.order in
+    let encode = g.U.CodeUnit.encode in
+    let none : c.loop-order.pending ≡ [] = c.is_empty.ensures.0 c.if-is_empty.true in
+    let first =
+    advance_then order encode _ _ _ c.args.src.now _ _ _ _ _ _ _ c.loop-order.invariant.advanced c.convert_neutral-more.ensures.characters in
+    rw none (all_after order encode g.U.CodeUnit.need _ _ _ _ _ _ _ c.requires.pending (rw none at first) c.if-read-src.true)
 
 pub returns-in-Some : goal.returns-in-Some
 returns-in-Some g c =
