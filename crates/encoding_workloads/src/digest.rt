@@ -5,7 +5,7 @@ use std::simd::prelude::*;
 /// The length of the vectors that long outputs are added by, in bytes.
 const LANES: usize = 32;
 
-/// The same in code units.
+/// The length of the vectors that long outputs are added by, in code units.
 const UNITS: usize = 16;
 
 /// A digest of the results so far.

@@ -10,7 +10,7 @@ use std::alloc::{AllocError, Global};
 pub(crate) enum Page {
     /// Messages: ideographs, marks of ASCII, emoji.
     Chinese,
-    /// The same with syllables and ideographs.
+    /// Messages: syllables and ideographs, marks of ASCII, emoji.
     Japanese,
     /// Words of syllables with spaces between them.
     Korean,
