@@ -11,6 +11,7 @@ pub mod LossyLemmas
 pub mod PartsLemmas
 pub mod SequenceLemmas
 pub mod SurrogateLemmas
+pub mod UnpairedCountLemmas
 pub mod Utf16LawLemmas
 pub mod Utf16Lemmas
 pub mod Utf16PrefixLemmas

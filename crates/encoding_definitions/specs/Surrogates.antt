@@ -1,5 +1,5 @@
--- Unpaired surrogates among UTF-16 code units: which units are valid, and what replaces each unpaired surrogate.
-use Rattle.std.specs.Prelude.{◌≡◌, ℕ, List, [], ◌∷◌, ◌++◌, length, map, slice_index}
+-- Unpaired surrogates among UTF-16 code units: which units are valid, how many there are, and what replaces each.
+use Rattle.std.specs.Prelude.{◌≡◌, ℕ, suc, List, [], ◌∷◌, ◌++◌, length, map, slice_index}
 use Rattle.std.specs.Char.Escape.{encode_utf16}
 use Rattle.std.specs.List.{flat_map}
 use Rattle.encoding_definitions.specs.Utf16.{Part16, Character16, Unpaired, units_of_part16, ArePartsOf16}
@@ -7,6 +7,16 @@ use Rattle.encoding_definitions.specs.Utf16.{Part16, Character16, Unpaired, unit
 -- the units have no unpaired surrogate: each part is a character
 abbrev pub IsValidUtf16 : List ℕ → Type 0
 IsValidUtf16 us = (cs : List ℕ) × ArePartsOf16 us (map Character16 cs)
+
+-- how many of the parts are unpaired surrogates
+abbrev pub unpaired_count : List Part16 → ℕ
+unpaired_count [] = 0
+unpaired_count (Character16 c ∷ parts) = unpaired_count parts
+unpaired_count (Unpaired u ∷ parts) = suc (unpaired_count parts)
+
+-- the units have `count` unpaired surrogates
+abbrev pub HasUnpaired : List ℕ → ℕ → Type 0
+HasUnpaired us count = (parts : List Part16) × ArePartsOf16 us parts × (count ≡ unpaired_count parts)
 
 -- the units that a part becomes: U+FFFD for an unpaired surrogate, and the same units for a character
 abbrev pub repaired_units : Part16 → List ℕ

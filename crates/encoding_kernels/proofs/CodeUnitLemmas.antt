@@ -3,14 +3,13 @@
 use Rattle.std.proofs.Common.{◌≡◌, ℕ, zero, suc, ◌+◌, ◌-◌, ◌*◌, ◌%◌, ◌^◌, ◌<◌, ◌≤◌, Bool, true, false, ◌&&◌, cond, ltb, List, [], ◌∷◌, ◌++◌, map, length, take, get_or, replicate, bit_and, refl, sym, ap, ◌∙◌, arith, subst, w8, Fits, ◌/◌, leb, drop, bit_or, length-take-le, length-drop, get_or-take, get_or-drop, length-append, inl, inr}
 use Rattle.std.specs.List.{range_with_len}
 use Rattle.std.specs.Simd.Lanes.{zip2, chunk, pick_l, mask_l, top, Each1}
-use Rattle.std.proofs.lemmas.Nat.{and_mask, one_shl}
+use Rattle.std.proofs.lemmas.Nat.{and_mask}
 use Rattle.std.proofs.lemmas.List.{length-append, length-map, get_or-map, same_lists, get_or_append_left, get_or-append_right}
 use Rattle.std.proofs.lemmas.List.FromFn.{get_or-map-range_with_len, length-range_with_len, get_or-range_with_len}
 use Rattle.std.proofs.lemmas.Simd.{Each1-get_or, mask_l-mod, pick_l_whole, swz_l, SwzOk, length-swz_l, get_or-swz_l_below, SwzOk-from_below, Each1-from_get_or}
 use Rattle.encoding_kernels.specs.Scans.{BelowUpTo, HasLanes}
 use Rattle.encoding_kernels.specs.EndingUnits.{ends_unit, low_bits, unit_at, units_after, ends_after, unit_lane, upper_of}
-use Rattle.encoding_kernels.proofs.VectorLemmas.{HasLanes-itself, HasLanes-splat, HasLanes-zip2, HasLanes_load, HasLanes_same, compared, same_below, wide, wide_l}
-use Rattle.encoding_kernels.proofs.CompressLemmas.{mask_prefix}
+use Rattle.encoding_kernels.proofs.VectorLemmas.{HasLanes-splat, HasLanes-zip2, HasLanes_load, HasLanes_same, compared, same_below, wide, wide_l}
 use Rattle.std.specs.Int.Bits.{or_zero_r}
 use Rattle.std.proofs.lemmas.Bool.{cond-false, lt-leb, cases_lt}
 use Rattle.std.proofs.lemmas.Bool.Decides.{nat_tests}
@@ -30,11 +29,6 @@ pub HasLanes-after : (zs v : List ℕ) (n : ℕ) → HasLanes (length zs + n) (z
 HasLanes-after zs v n =
     let last : length (lanes_from v n) ≡ n = length-map (range_with_len 0 n) (λ j. get_or v j 0) ∙ length-range_with_len 0 n in
     record { long = omega (arith, length-append zs (lanes_from v n), last); each = after_lanes zs v n }
-
--- bytes below a bound, with a zero before them
-pub after_below : (n : ℕ) (v : List ℕ) → 0 < n → ((k : ℕ) → k < 16 → get_or v k 0 < n) → (k : ℕ) → k < 16 → get_or (0 ∷ v) k 0 < n
-after_below n v h b zero l = h
-after_below n v h b (suc k) l = b k (omega arith)
 
 -- the same for a prefix of any length
 below_after : (b n : ℕ) (v : List ℕ) → 0 < b → BelowUpTo b v n → BelowUpTo b (0 ∷ v) (n + 1)
@@ -102,10 +96,6 @@ end_marks_of v one f g marks V h long is =
     let in_16 : k < 16 = omega (arith, size) in
     get_or-map (top 7) (end_lanes v one) k 0 d (omega (arith, lanes.long)) ∙ ap (top 7) (lanes.each k in_16) ∙ both_tops _ _ ∙ sym (is k d in_16))
 
-end_marks : (v one : List ℕ) → length v ≡ 16 → HasLanes 16 one (λ k. get_or (0 ∷ v) k 0) → map (top 7) (end_lanes v one) ≡ ends_after 0 v
-end_marks v one long h =
-    end_marks_of v one _ _ (ends_after 0 v) (HasLanes-itself 16 v long) h (length-ends 0 v ∙ long) (λ k d l. ends_at 0 v k d (omega (arith, long)))
-
 -- of a stride at an index
 pub stride_mask : (src one : List ℕ) (at : ℕ) → at + 16 ≤ length src → HasLanes 16 one (λ k. get_or (0 ∷ src) (at + k) 0)
     → mask_l (map (top 7) (end_lanes (chunk at 16 src) one)) % 2 ^ 64 ≡ mask_l (take 16 (drop at (ends_after 0 src)))
@@ -115,15 +105,6 @@ stride_mask src one at room h =
     let marks = end_marks_of (chunk at 16 src) one _ _ (take 16 (drop at ends)) (HasLanes_load at 16 src room) h long (λ k d l.
     get_or-take 16 (drop at ends) k d l ∙ get_or-drop at ends k d ∙ ends_at 0 src (at + k) d (omega arith)) in
     ap (λ ms. mask_l ms % 2 ^ 64) marks ∙ mask_l-mod (take 16 (drop at ends)) 64 (omega (arith, long))
-
-pub ends_mask : (v one : List ℕ) (end : ℕ) → length v ≡ 16 → HasLanes 16 one (λ k. get_or (0 ∷ v) k 0) → end ≤ 16
-    → bit_and (mask_l (map (top 7) (end_lanes v one)) % 2 ^ 64) (1 * 2 ^ end % 2 ^ 64 - 1) ≡ mask_l (take end (ends_after 0 v) ++ replicate (16 - end) false)
-ends_mask v one end long h few =
-    let marks = end_marks v one long h in
-    let size : length (ends_after 0 v) ≡ 16 = length-ends 0 v ∙ long in
-    let mask : mask_l (map (top 7) (end_lanes v one)) % 2 ^ 64 ≡ mask_l (ends_after 0 v) = ap (λ ms. mask_l ms % 2 ^ 64) marks
-    ∙ mask_l-mod (ends_after 0 v) 64 (omega (arith, size)) in
-    (λ i. bit_and (mask i) (one_shl end 64 (omega arith) i - 1)) ∙ mask_prefix (ends_after 0 v) (16 - end) end (omega (arith, size))
 
 -- ---- every third byte
 pub picked_lanes : (n : ℕ) (v ks : List ℕ) → length ks ≡ n → HasLanes n (pick_l 0 v ks) (λ k. get_or v (get_or ks k 0) 0)

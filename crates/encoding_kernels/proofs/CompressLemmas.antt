@@ -162,6 +162,29 @@ mask_suffix xs e h =
     ∙ (λ i. mask_l (drop e xs) * 2 ^ length-replicate e false i + mask_none e i) ∙ omega arith in
     ap (λ m. m * 2 ^ e) (ap (λ m. m / 2 ^ e) split.0 ∙ div-mul-add (mask_l (drop e xs)) (2 ^ e) (mask_l (take e xs)) split.1) ∙ sym zeros
 
+-- the marks from an index up to another
+pub part_size : (xs : List Bool) (from to : ℕ) → length xs ≡ 16 → from ≤ to → to ≤ 16
+    → length (replicate from false ++ drop from (take to xs ++ replicate (16 - to) false)) ≡ 16
+part_size xs from to long before within =
+    let pad = replicate {A = Bool} (16 - to) false in
+    omega (
+      arith,
+      length-take-le to xs (omega (arith, long)),
+      length-append (take to xs) pad,
+      length-replicate {A = Bool} (16 - to) false,
+      length-append (replicate from false) (drop from (take to xs ++ pad)),
+      length-replicate {A = Bool} from false,
+      length-drop from (take to xs ++ pad),
+    )
+
+pub mask_between : (xs : List Bool) (from to : ℕ) → length xs ≡ 16 → from ≤ to → to ≤ 16
+    → bit_and (mask_l xs) (2 ^ to - 1) / 2 ^ from * 2 ^ from ≡ mask_l (replicate from false ++ drop from (take to xs ++ replicate (16 - to) false))
+mask_between xs from to long before within =
+    let pad = replicate {A = Bool} (16 - to) false in
+    let size = length-take-le to xs (omega (arith, long)) in
+    ap (λ m. m / 2 ^ from * 2 ^ from) (mask_prefix xs (16 - to) to (omega (arith, long)))
+    ∙ mask_suffix (take to xs ++ pad) from (omega (arith, size, length-append (take to xs) pad))
+
 -- the mask of the tests of the first items
 pub first_mask : (test : ℕ → Bool) (xs : List ℕ) (mask e : ℕ) → mask ≡ mask_l (map test xs) → e ≤ length xs → e < 64
     → bit_and mask (1 * 2 ^ e % 2 ^ 64 - 1) ≡ mask_l (map test (take e xs))
@@ -224,6 +247,13 @@ unfolding keep
 keep_none zero us = refl
 keep_none (suc n) [] = refl
 keep_none (suc n) (u ∷ us) = keep_none n us
+
+-- marks keep nothing after the last of them
+pub keep_take : (ms : List Bool) (us : List ℕ) → keep ms us ≡ keep ms (take (length ms) us)
+unfolding keep
+keep_take [] us = refl
+keep_take (m ∷ ms) [] = refl
+keep_take (m ∷ ms) (u ∷ us) = ap (λ xs. (if m then u ∷ [] else []) ++ xs) (keep_take ms us)
 
 pub keep_pad : (ms : List Bool) (us : List ℕ) (n : ℕ) → keep (ms ++ replicate n false) us ≡ keep ms us
 unfolding keep
@@ -410,3 +440,15 @@ module _ (ms : List Bool) (us old low_us high_us first second : List ℕ) (kept 
         following = (λ i. drop (size i) (is i)) ∙ drop_at both (drop (count + more) old) (count + more) (length-append low_kept high_kept)
             ∙ ap (λ n. drop n old) (sym size);
       }
+
+-- more may have changed
+pub reaches_more : {ms : List Bool} {us old new : List ℕ} {count reach : ℕ} (most : ℕ) → reach ≤ most → WritesCompressed ms us old new count reach
+    → WritesCompressed ms us old new count most
+reaches_more {ms} {us} {old} {new} {count} {reach} most l w =
+    let e : reach + (most - reach) ≡ most = omega arith in
+    let past = λ (xs : List ℕ). ap (λ m. drop m xs) (sym e) ∙ sym (drop-drop (most - reach) reach xs) in
+    record {
+      counted = w.counted;
+      placed = w.placed;
+      following = past new ∙ ap (drop (most - reach)) w.following ∙ sym (past old);
+    }

@@ -1,8 +1,8 @@
 -- What is stored of a vector: its first bytes, of which a second store overwrites the excess, and the lower bytes of code
 -- units. And a vector of a short text followed by zeros, from its first eight bytes and its last eight.
 use Rattle.std.proofs.Common.{◌≡◌, ℕ, ◌+◌, ◌≤◌, List, ◌++◌, length, take, drop, length-take-le, get_or, cond, ltb, sym, ap, ◌∙◌, arith, append_assoc, map, replicate, ◌%◌, ◌<◌, map-id, get_or-take, bit_and, w8, Fits, ◌-◌, ◌^◌, length-append, length-drop, get_or-drop, inl, inr, refl}
-use Rattle.std.proofs.lemmas.List.{drop_at, length-map, get_or-map, get_or_append_left, get_or-append_right, length-take-le}
-use Rattle.std.proofs.lemmas.Simd.{length-put_chunk, length-chunk, Each1-from_get_or, get_or-chunk, length-replicate, get_or-replicate, swz_l, SwzOk}
+use Rattle.std.proofs.lemmas.List.{take_all, drop_at, length-map, get_or-map, get_or_append_left, get_or-append_right, length-take-le}
+use Rattle.std.proofs.lemmas.Simd.{length-put_chunk, length-chunk, Each1-from_get_or, length-replicate, get_or-replicate, swz_l, SwzOk}
 use Rattle.std.specs.List.{range_with_len}
 use Rattle.std.specs.Simd.Lanes.{chunk, put_chunk, zip2, sel_l, top, Each1, pick_l}
 use mir.Syntax.{Width}
@@ -29,7 +29,7 @@ pub put_first : {n : ℕ} (w : Width) (at count : ℕ) (xs lanes : List ℕ) →
     (chunk at n xs)) ≡ take at xs ++ (take count lanes ++ drop (at + count) xs)
 put_first {n} w at count xs lanes room long few = put_firsts at n count xs lanes _ room long few (firsts_over w at count xs lanes room long)
 
-module _ (at count more : ℕ) (xs first second z : List ℕ) (room : at + 32 ≤ length xs) (few : count ≤ 16) (long : length first ≡ 16)
+module _ (at count more : ℕ) (xs first second z : List ℕ) (room : at + (16 + count) ≤ length xs) (few : count ≤ 16) (long : length first ≡ 16)
     (less : more ≤ 16) (also : length second ≡ 16)
     (lanes : HasLanes 16 z (λ k. cond (ltb k more) (get_or second k 0) (get_or (chunk (at + count) 16 xs) k 0))) where
   -- only the second store
@@ -110,27 +110,33 @@ place_small n k l = grind (arith, nat_tests, and_le_r ((k + (16 + (2 ^ 8 - n)) %
 pub places_ok : (n : ℕ) → SwzOk w8 16 16 0 (places n)
 places_ok n = swizzle_ok (placed n) (place_small n)
 
-module _ (xs : List ℕ) (least : 8 ≤ length xs) (most : length xs ≤ 16) where
-  abbrev n : ℕ
-  n = length xs
-
-  abbrev ends : List ℕ
-  ends = take 8 xs ++ chunk (n - 8) 8 xs
-
-  abbrev both : List ℕ
-  both = pick_l 0 ends numbers
-
-  picked : (j : ℕ) → j < 16 → get_or both j 0 ≡ get_or ends j 0
-  picked j l = get_or-map (λ k. get_or ends k 0) numbers j 0 0 (omega arith) ∙ ap (λ k. get_or ends k 0) ((HasLanes-numbers 16).each j l)
+module _ (xs : List ℕ) (least : 8 ≤ length xs) where
+  abbrev chunks : List ℕ
+  chunks = take 8 xs ++ chunk (length xs - 8) 8 xs
 
   first_long : length (take 8 xs) ≡ 8
   first_long = length-take-le 8 xs least
+
+  -- the shuffle of the first eight and the last eight
+  pub first_and_last : pick_l 0 chunks numbers ≡ take 8 xs ++ drop (length xs - 8) xs
+  first_and_last =
+      let last : chunk (length xs - 8) 8 xs ≡ drop (length xs - 8) xs = take_all 8 (drop (length xs - 8) xs) (omega (arith, length-drop (length xs - 8) xs)) in
+      let last_long = length-chunk (length xs - 8) 8 xs (omega arith) in
+      let long : length chunks ≡ 16 = omega (arith, first_long, length-append (take 8 xs) (chunk (length xs - 8) 8 xs), last_long) in
+      same_number_lists (pick_l 0 chunks numbers) chunks (omega (arith, long, length-map numbers (λ k. get_or chunks k 0), (HasLanes-numbers 16).long)) (λ k l.
+      let within : k < 16 = omega (arith, length-map numbers (λ k. get_or chunks k 0), (HasLanes-numbers 16).long) in
+      get_or-map (λ k. get_or chunks k 0) numbers k 0 0 (omega arith) ∙ ap (λ k. get_or chunks k 0) ((HasLanes-numbers 16).each k within))
+      ∙ ap (λ ys. take 8 xs ++ ys) last
+
+module _ (xs both : List ℕ) (least : 8 ≤ length xs) (most : length xs ≤ 16) (is : both ≡ take 8 xs ++ drop (length xs - 8) xs) where
+  abbrev n : ℕ
+  n = length xs
 
   -- one of the first eight, and one after them
   early : (k : ℕ) → k < 8 → get_or both (place n k) 0 ≡ get_or xs k 0
   early k l =
       let here : place n k ≡ k = cond-true _ _ _ (lt-ltb k 8 l) in
-      ap (λ j. get_or both j 0) here ∙ picked k (omega arith) ∙ get_or_append_left (take 8 xs) (chunk (n - 8) 8 xs) 0 k (omega (arith, first_long))
+      ap (λ j. get_or both j 0) here ∙ ap (λ ys. get_or ys k 0) is ∙ get_or_append_left (take 8 xs) (drop (n - 8) xs) 0 k (omega (arith, first_long xs least))
       ∙ get_or-take 8 xs k 0 l
 
   late : (k : ℕ) → 8 ≤ k → k < n → get_or both (place n k) 0 ≡ get_or xs k 0
@@ -140,9 +146,9 @@ module _ (xs : List ℕ) (least : 8 ≤ length xs) (most : length xs ≤ 16) whe
       let here : place n k ≡ 16 + k - n = cond-false _ _ _ (le-ltb k 8 h) ∙ ap (λ j. bit_and j 15) sum ∙ low in
       let inside : 16 + k - n - 8 < 8 = omega (arith, most) in
       let back : n - 8 + (16 + k - n - 8) ≡ k = omega (arith, least, most) in
-      ap (λ j. get_or both j 0) here ∙ picked (16 + k - n) (omega (arith, most))
-      ∙ get_or-append_right (take 8 xs) (chunk (n - 8) 8 xs) 8 (16 + k - n) 0 first_long (omega (arith, most))
-      ∙ get_or-chunk (n - 8) 8 xs (16 + k - n - 8) 0 inside ∙ ap (λ j. get_or xs j 0) back
+      ap (λ j. get_or both j 0) here ∙ ap (λ ys. get_or ys (16 + k - n) 0) is
+      ∙ get_or-append_right (take 8 xs) (drop (n - 8) xs) 8 (16 + k - n) 0 (first_long xs least) (omega (arith, most))
+      ∙ get_or-drop (n - 8) xs (16 + k - n - 8) 0 ∙ ap (λ j. get_or xs j 0) back
 
   abbrev z : List ℕ
   z = sel_l (map (top 7) (zip2 (compared w8 ltb) numbers (replicate 16 n))) (swz_l w8 16 both 0 (places n)) (replicate 16 0)

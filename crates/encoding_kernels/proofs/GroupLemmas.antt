@@ -1,21 +1,23 @@
 -- UTF-16 of many characters at once: of eight of three bytes, and of those that end in 64 bytes.
 use Rattle.std.proofs.Common.{◌≡◌, ◌&&◌, ℕ, not, eqb, leb, bit_and, zero, suc, ◌+◌, ◌-◌, ◌<◌, ◌≤◌, inl, inr, Bool, true, false, if◌then◌else◌, ltb, List, [], ◌∷◌, ◌++◌, map, length, replicate, take, drop, get_or, refl, sym, ap, ◌∙◌, arith, subst, take-add, append_assoc, drop-drop}
 use Rattle.std.specs.List.{range_with_len}
-use Rattle.std.specs.Str.{IsUtf8, IsCharBoundary}
+use Rattle.std.specs.Str.{IsUtf8, IsCharBoundary, chars}
 use Rattle.std.specs.Simd.Lanes.{chunk, pick_l}
 use Rattle.std.proofs.lemmas.Bool.{cases_lt, cond-true, cond-false, lt-ltb, le-ltb, ltb-true, and_parts, leb-true, not-false}
 use borrow.Rule.Slice.PartMut.{put_mid}
 use Rattle.std.proofs.Math.Seq.{take-append-add}
-use Rattle.std.proofs.lemmas.List.{append-nil, drop_all, drop_at, drop-take, take_at, take_rest, length-replicate, length-take-le, length-append, length-drop, length-take, get_or-take, get_or-drop, get_or-map, get_or_append_left, get_or-append_right, length-map}
+use Rattle.std.proofs.lemmas.List.{append-nil, drop_all, drop_at, drop-append-le, drop-take, take-take, take_at, take_rest, length-take-le, length-append, length-drop, length-take, get_or-take, get_or-drop, get_or-map, get_or_append_left, get_or-append_right, length-map}
 use Rattle.std.proofs.lemmas.Bool.Decides.{nat_tests}
 use Rattle.encoding_kernels.specs.Scans.{BelowBetween, HasLanes}
 use Rattle.encoding_kernels.specs.EndingUnits.{BeginsThree, NoUnitEnds, StoresUnits, WritesCompressed, WritesUtf16, ends_after, ends_unit, keep, unit_at, units_after}
 use Rattle.encoding_kernels.proofs.VectorLemmas.{HasLanes_load, HasLanes_same, same_below}
 use Rattle.std.specs.Char.Escape.{encode_utf16}
 use Rattle.std.specs.List.{flat_map}
-use Rattle.std.proofs.lemmas.Str.{IsUtf8-take, IsUtf8-drop}
+use Rattle.std.proofs.lemmas.Str.{IsCharBoundary-at_seam, IsUtf8-append, IsUtf8-take, IsUtf8-drop}
+use Rattle.encoding_definitions.specs.Prefixes.{WritesPrefix}
+use Rattle.encoding_kernels.proofs.Utf8ToUtf16LoopLemmas.{Putting, putting_fits, putting_rest, puts_whole, zeros_text}
 use Rattle.encoding_kernels.proofs.CodeUnitLemmas.{ends_at, length-ends, length-units}
-use Rattle.encoding_kernels.proofs.CompressLemmas.{length-keep-le}
+use Rattle.encoding_kernels.proofs.CompressLemmas.{keep_pad, keep_take, length-keep-le, part_size}
 use Rattle.encoding_kernels.proofs.Utf8ToUtf16Lemmas.{units_from, units_of_characters}
 
 -- ---- the first of three bytes
@@ -82,9 +84,9 @@ below_each bound src lanes greatest below k l m = elim (cases_lt k 32) [
     at from b h = let there : from + (k - from) ≡ k = omega arith in subst (λ j. get_or src j 0 < bound) there b
 
 -- ---- the bytes before each of a stride
-pub zeros_before : (src v zs : List ℕ) → 16 ≤ length src → HasLanes 16 v (λ k. get_or (zs ++ take 16 src) k 0)
-    → HasLanes 16 v (λ k. get_or (zs ++ src) (0 + k) 0)
-zeros_before src v zs room h = HasLanes_same h (λ k l. prefix zs k (omega arith) ∙ ap (λ j. get_or (zs ++ src) j 0) (omega arith))
+pub zeros_before : (src v zs : List ℕ) (at : ℕ) → at ≡ 0 → 16 ≤ length src → HasLanes 16 v (λ k. get_or (zs ++ take 16 src) k 0)
+    → HasLanes 16 v (λ k. get_or (zs ++ src) (at + k) 0)
+zeros_before src v zs at first room h = HasLanes_same h (λ k l. prefix zs k (omega arith) ∙ ap (λ j. get_or (zs ++ src) j 0) (omega arith))
   where
     prefix : (zs : List ℕ) (k : ℕ) → k < length zs + 16 → get_or (zs ++ take 16 src) k 0 ≡ get_or (zs ++ src) k 0
     prefix [] k l = get_or-take 16 src k 0 l
@@ -108,23 +110,14 @@ joined_halves src at p q =
     let us = units_after 0 0 0 src in
     (λ i. p i ++ (q ∙ ap (take 8) (sym (drop-drop 8 at us))) i) ∙ sym (take-add 8 8 (drop at us))
 
--- it stores the units of both halves, and what follows eight more is unchanged
-pub stride_stored : (src : List ℕ) (at : ℕ) (first last old new : List ℕ) (count ones : ℕ) → first ≡ take 8 (drop at (units_after 0 0 0 src))
-    → last ≡ take 8 (drop (at + 8) (units_after 0 0 0 src))
-    → WritesCompressed (take 16 (drop at (ends_after 0 src))) (first ++ last) old new count (count + 8 - ones)
-    → WritesCompressed (take 16 (drop at (ends_after 0 src))) (take 16 (drop at (units_after 0 0 0 src))) old new count (count + 8)
-stride_stored src at first last old new count ones p q w =
-    let both = joined_halves src at p q in
-    let reach = count + 8 - ones in
-    let e : reach + (count + 8 - reach) ≡ count + 8 = omega arith in
-    let past = λ (xs : List ℕ). ap (λ m. drop m xs) (sym e) ∙ sym (drop-drop (count + 8 - reach) reach xs) in
-    record {
-      counted = w.counted ∙ ap (λ xs. length (keep (take 16 (drop at (ends_after 0 src))) xs)) both;
-      placed = w.placed ∙ ap (keep (take 16 (drop at (ends_after 0 src)))) both;
-      following = past new ∙ ap (drop (count + 8 - reach)) w.following ∙ sym (past old);
-    }
+-- ---- a part of a stride
+-- the marks of the units that end with its bytes from an index up to another
+abbrev pub part_marks : List ℕ → ℕ → ℕ → ℕ → List Bool
+part_marks src at from to = replicate from false ++ drop from (take to (take 16 (drop at (ends_after 0 src))) ++ replicate (16 - to) false)
 
--- ---- a stride without its first units
+pub part_long : (src : List ℕ) (at from to : ℕ) → at + 16 ≤ length src → from ≤ to → to ≤ 16 → length (part_marks src at from to) ≡ 16
+part_long src at from to room before within = part_size (take 16 (drop at (ends_after 0 src))) from to (stride_marks src at room) before within
+
 keep_skip : (e : ℕ) (ms : List Bool) (us : List ℕ) → keep (replicate e false ++ ms) us ≡ keep ms (drop e us)
 unfolding keep
 keep_skip zero ms us = refl
@@ -132,30 +125,35 @@ keep_skip (suc e) [] [] = refl
 keep_skip (suc e) (m ∷ ms) [] = refl
 keep_skip (suc e) ms (u ∷ us) = keep_skip e ms us
 
-pub skipped_marks : (src : List ℕ) (at skip : ℕ) → at + 16 ≤ length src → skip < 16
-    → length (replicate skip false ++ drop skip (take 16 (drop at (ends_after 0 src)))) ≡ 16
-skipped_marks src at skip room few =
+part_of : {X : Type 0} (xs : List X) (at from to : ℕ) → from ≤ to → to ≤ 16
+    → take (to - from) (drop from (take 16 (drop at xs))) ≡ take (to - from) (drop (at + from) xs)
+part_of xs at from to before within =
+    let split : from + (16 - from) ≡ 16 = omega arith in
+    ap (take (to - from)) ((λ i. drop from (take (sym split i) (drop at xs))) ∙ drop-take from (16 - from) (drop at xs)
+    ∙ ap (take (16 - from)) (drop-drop from at xs)) ∙ take-take (to - from) (16 - from) (drop (at + from) xs) (omega arith)
+
+pub part_stored : (src : List ℕ) (at from to : ℕ) (first last old new : List ℕ) (count reach : ℕ) → at + 16 ≤ length src → from ≤ to → to ≤ 16
+    → first ≡ take 8 (drop at (units_after 0 0 0 src)) → last ≡ take 8 (drop (at + 8) (units_after 0 0 0 src))
+    → WritesCompressed (part_marks src at from to) (first ++ last) old new count reach
+    → WritesCompressed (take (to - from) (drop (at + from) (ends_after 0 src))) (take (to - from) (drop (at + from) (units_after 0 0 0 src))) old new
+    count reach
+part_stored src at from to first last old new count reach room before within p q w =
     let marks = take 16 (drop at (ends_after 0 src)) in
-    omega (arith, stride_marks src at room, length-append (replicate skip false) (drop skip marks), length-replicate skip false, length-drop skip marks)
-
-part_of : {X : Type 0} (xs : List X) (at skip : ℕ) → skip < 16 → drop skip (take 16 (drop at xs)) ≡ take (16 - skip) (drop (at + skip) xs)
-part_of xs at skip few =
-    let split : skip + (16 - skip) ≡ 16 = omega arith in
-    (λ i. drop skip (take (sym split i) (drop at xs))) ∙ drop-take skip (16 - skip) (drop at xs) ∙ ap (take (16 - skip)) (drop-drop skip at xs)
-
-pub skipped_stored : (src : List ℕ) (at skip : ℕ) (first last old new : List ℕ) (count : ℕ) → skip < 16 → first ≡ take 8 (drop at (units_after 0 0 0 src))
-    → last ≡ take 8 (drop (at + 8) (units_after 0 0 0 src))
-    → WritesCompressed (replicate skip false ++ drop skip (take 16 (drop at (ends_after 0 src)))) (first ++ last) old new count count
-    → WritesCompressed (take (16 - skip) (drop (at + skip) (ends_after 0 src)))
-    (take (16 - skip) (drop (at + skip) (units_after 0 0 0 src))) old new count count
-skipped_stored src at skip first last old new count few p q w =
-    let ends = ends_after 0 src in
-    let us = units_after 0 0 0 src in
-    let both = joined_halves src at p q in
-    let kept : keep (replicate skip false ++ drop skip (take 16 (drop at ends))) (first ++ last)
-    ≡ keep (take (16 - skip) (drop (at + skip) ends)) (take (16 - skip) (drop (at + skip) us)) =
-    keep_skip skip (drop skip (take 16 (drop at ends))) (first ++ last)
-    ∙ (λ i. keep (part_of ends at skip few i) ((ap (drop skip) both ∙ part_of us at skip few) i)) in
+    let pad = replicate {A = Bool} (16 - to) false in
+    let us = take 16 (drop at (units_after 0 0 0 src)) in
+    let long : length (take to marks) ≡ to = length-take-le to marks (omega (arith, stride_marks src at room)) in
+    let split : from + (to - from) ≡ to = omega arith in
+    let part : drop from (take to marks) ≡ take (to - from) (drop (at + from) (ends_after 0 src)) =
+    (λ i. drop from (take (sym split i) marks)) ∙ drop-take from (to - from) marks ∙ part_of (ends_after 0 src) at from to before within in
+    let size : length (drop from (take to marks)) ≡ to - from = omega (arith, length-drop from (take to marks), long) in
+    let kept : keep (part_marks src at from to) (first ++ last)
+    ≡ keep (take (to - from) (drop (at + from) (ends_after 0 src))) (take (to - from) (drop (at + from) (units_after 0 0 0 src))) =
+    keep_skip from (drop from (take to marks ++ pad)) (first ++ last)
+    ∙ (λ i. keep (drop-append-le from (take to marks) pad (omega (arith, long)) i) (drop from (joined_halves src at p q i)))
+    ∙ keep_pad (drop from (take to marks)) (drop from us) (16 - to)
+    ∙ keep_take (drop from (take to marks)) (drop from us)
+    ∙ (λ i. keep (part i) (take (size i) (drop from us)))
+    ∙ ap (keep (take (to - from) (drop (at + from) (ends_after 0 src)))) (part_of (units_after 0 0 0 src) at from to before within) in
     record {
       counted = w.counted ∙ ap length kept;
       placed = w.placed ∙ kept;
@@ -167,9 +165,9 @@ pub stored_few : (marks : List Bool) (us : List ℕ) {old new : List ℕ} {count
 stored_few marks us n w = omega (arith, w.counted, length-keep-le (take n marks) (take n us), length-take n marks)
 
 -- what is stored in another list
-pub stored_apart : (marks : List Bool) (us old new other : List ℕ) (count : ℕ) → count ≤ length new
-    → WritesCompressed marks us old new count count → WritesCompressed marks us other (take count new ++ drop count other) count count
-stored_apart marks us old new other count within w =
+pub stored_apart : (marks : List Bool) (us old new other : List ℕ) (count reach : ℕ) → count ≤ length new
+    → WritesCompressed marks us old new count reach → WritesCompressed marks us other (take count new ++ drop count other) count count
+stored_apart marks us old new other count reach within w =
     let long : length (take count new) ≡ count = length-take-le count new within in
     record {
       counted = w.counted;
@@ -202,25 +200,27 @@ units_more src at n within =
     ∙ keep-append (take at ends) (take n (drop at ends)) (take at units) (take n (drop at units))
     (length-take-le at ends (omega (arith, length-ends 0 src)) ∙ sym (length-take-le at units (omega (arith, length-units 0 0 0 src))))
 
-pub group_first : (src old new : List ℕ) (count reach : ℕ) → 16 ≤ length src → length new ≡ length old
-    → WritesCompressed (take 16 (drop 0 (ends_after 0 src))) (take 16 (drop 0 (units_after 0 0 0 src))) old new count reach
-    → StoresUnits src old new 16 count reach
-group_first src old new count reach room same w = record {
+pub group_first : (src old new : List ℕ) (n next count reach : ℕ) → n ≡ next → length new ≡ length old
+    → WritesCompressed (take n (drop 0 (ends_after 0 src))) (take n (drop 0 (units_after 0 0 0 src))) old new count reach
+    → StoresUnits src old new next count reach
+group_first src old new n next count reach e same w = subst (λ k. StoresUnits src old new k count reach) e (record {
   placed = w.placed;
   counted = w.counted;
-  few = omega (arith, w.counted, length-keep-le (take 16 (ends_after 0 src)) (take 16 (units_after 0 0 0 src)), length-take 16 (ends_after 0 src));
+  few = omega (arith, w.counted, length-keep-le (take n (ends_after 0 src)) (take n (units_after 0 0 0 src)), length-take n (ends_after 0 src));
   same_length = same;
   following = w.following;
-}
+})
 
 -- those that end with the next n bytes: `more` units after them may have changed
-pub group_more : (src old new sub : List ℕ) (at n next written count more : ℕ) → at + n ≡ next → next ≤ length src → written ≤ length new
+pub group_more : (src old new sub : List ℕ) (at n from next written count more : ℕ) → from ≡ at → at + n ≡ next → next ≤ length src → written ≤ length new
     → length sub ≡ length new - written
     → StoresUnits src old new at written (written + more)
-    → WritesCompressed (take n (drop at (ends_after 0 src))) (take n (drop at (units_after 0 0 0 src))) (take (length new - written) (drop written new)) sub
+    → WritesCompressed (take n (drop from (ends_after 0 src))) (take n (drop from (units_after 0 0 0 src))) (take (length new - written) (drop written new)) sub
     count (count + more)
     → StoresUnits src old (put_mid written (length new - written) new sub) next (written + count) (written + count + more)
-group_more src old new sub at n next written count more e room within size s w =
+group_more src old new sub at n from next written count more same e room within size s v =
+    let here = take (length new - written) (drop written new) in
+    let w = subst (λ k. WritesCompressed (take n (drop k (ends_after 0 src))) (take n (drop k (units_after 0 0 0 src))) here sub count (count + more)) same v in
     let done = take written new in
     let long : length done ≡ written = length-take-le written new within in
     let whole : take (length new - written) (drop written new) ≡ drop written new = take_rest new written in
@@ -255,22 +255,6 @@ group_more src old new sub at n next written count more e room within size s w =
         let past = λ (xs : List ℕ). ap (λ m. drop m xs) (sym split) ∙ sym (drop-drop count (written + more) xs) in
         past new ∙ ap (drop count) e ∙ sym (past old)
 
--- the same where no others may have changed
-pub group_next : (src old new sub : List ℕ) (at n from next written count : ℕ) → from ≡ at → at + n ≡ next → next ≤ length src → written ≤ length new
-    → length sub ≡ length new - written → StoresUnits src old new at written written
-    → WritesCompressed (take n (drop from (ends_after 0 src))) (take n (drop from (units_after 0 0 0 src))) (take (length new - written) (drop written new)) sub
-    count count
-    → StoresUnits src old (put_mid written (length new - written) new sub) next (written + count) (written + count)
-group_next src old new sub at n from next written count p e room within size s w =
-    let here = take (length new - written) (drop written new) in
-    let ends = ends_after 0 src in
-    let us = units_after 0 0 0 src in
-    let none : (m : ℕ) → m ≡ m + 0 = λ m. omega arith in
-    subst (λ m. StoresUnits src old (put_mid written (length new - written) new sub) next (written + count) m) (sym (none (written + count)))
-    (group_more src old new sub at n next written count 0 e room within size (subst (λ m. StoresUnits src old new at written m) (none written) s)
-    (subst (λ m. WritesCompressed (take n (drop at ends)) (take n (drop at us)) here sub count m) (none count)
-    (subst (λ k. WritesCompressed (take n (drop k ends)) (take n (drop k us)) here sub count count) p w)))
-
 -- ---- the characters whose units are stored
 both_taken : (n x y a : ℕ) (bs : List ℕ) → keep (take n (ends_after a bs)) (take n (units_after x y a bs)) ≡ units_from x y a (take n bs)
 unfolding keep ends_after units_after
@@ -286,9 +270,9 @@ keep_none (m ∷ ms) (u ∷ us) none =
     (λ i. (if none 0 (omega arith) i then u ∷ [] else []) ++ keep ms us) ∙ keep_none ms us (λ k l. none (suc k) (omega arith))
 
 -- those before `end`, if no unit ends between it and the end of the bytes read
-pub group_text : (src old new : List ℕ) (end to written stored reach : ℕ) → IsUtf8 src → end ≤ to → to ≤ length src → IsCharBoundary src end
-    → NoUnitEnds src end to → stored ≡ reach → StoresUnits src old new to written stored → WritesUtf16 src old new end written reach
-group_text src old new end to written stored reach u before within boundary none e s =
+pub group_text : (src old new : List ℕ) (end to written reach : ℕ) → IsUtf8 src → end ≤ to → to ≤ length src → IsCharBoundary src end
+    → NoUnitEnds src end to → StoresUnits src old new to written reach → WritesUtf16 src old new end written reach
+group_text src old new end to written reach u before within boundary none s =
     let text = IsUtf8-take src end u boundary in
     let ends = ends_after 0 src in
     let rest : end + (to - end) ≡ to = omega arith in
@@ -308,17 +292,40 @@ group_text src old new end to written stored reach u before within boundary none
       rest = IsUtf8-drop src end u boundary;
       counted = s.counted ∙ ap length units;
       placed = s.placed ∙ units;
-      following = (λ i. drop (sym e i) new) ∙ s.following ∙ (λ i. drop (e i) old);
+      following = s.following;
     }
 
-pub puts_none : (src old : List ℕ) (reach : ℕ) → IsUtf8 src → WritesUtf16 src old old 0 0 reach
-puts_none src old reach u = record {
-  taken = [];
-  are_scalars = refl;
-  within = omega arith;
-  spelled = refl;
-  rest = u;
-  counted = refl;
-  placed = refl;
-  following = refl;
-}
+-- those of whole characters
+pub group_whole : (src old new : List ℕ) (end written reach : ℕ) → IsUtf8 src → IsCharBoundary src end → StoresUnits src old new end written reach
+    → WritesUtf16 src old new end written reach
+group_whole src old new end written reach u boundary s =
+    group_text src old new end end written reach u (omega arith) boundary.0 boundary (λ k l m. absurd (omega arith)) s
+
+-- a text of at most sixteen bytes, followed by zeros
+pub tail_whole : (rest block old new : List ℕ) (n count : ℕ) → IsUtf8 rest → n ≡ length rest → length rest ≤ length old → length new ≡ length old
+    → block ≡ rest ++ drop (length rest) (replicate 16 0)
+    → WritesCompressed (take (n - 0) (drop 0 (ends_after 0 block))) (take (n - 0) (drop 0 (units_after 0 0 0 block))) old new count count
+    → WritesPrefix old new count (flat_map encode_utf16 (chars rest))
+tail_whole rest block old new n count u e room same is w =
+    let size = length rest in
+    let text : IsUtf8 block = subst IsUtf8 (sym is) (IsUtf8-append _ _ u (zeros_text size 16)) in
+    let boundary : IsCharBoundary block size =
+    subst (λ (bs : List ℕ). IsCharBoundary bs size) (sym is) (IsCharBoundary-at_seam _ rest _ refl (zeros_text size 16)) in
+    let prefix : take size block ≡ rest = subst (λ (bs : List ℕ). take size bs ≡ rest) (sym is) (take_at rest (drop size (replicate 16 0)) size refl) in
+    puts_whole rest block old new size count u prefix room
+    (group_whole block old new size count count text boundary (group_first block old new (n - 0) size count count (omega (arith, e)) same w))
+
+-- such a text after the first characters of another
+pub tail_written : (src block old new sub : List ℕ) (read written n count : ℕ) → IsUtf8 src → length src ≤ length old → length new ≡ length old
+    → Putting src old new read written → n ≡ length src - read → length sub ≡ length (take (length new - written) (drop written new))
+    → block ≡ take (length src - read) (drop read src) ++ drop (length (take (length src - read) (drop read src))) (replicate 16 0)
+    → WritesCompressed (take (n - 0) (drop 0 (ends_after 0 block))) (take (n - 0) (drop 0 (units_after 0 0 0 block)))
+    (take (length new - written) (drop written new)) sub count count
+    → WritesPrefix old (put_mid written (length new - written) new sub) (written + count) (flat_map encode_utf16 (chars src))
+tail_written src block old new sub read written n count u room same d e long is w =
+    let text = subst IsUtf8 (sym (take_rest src read)) d.rest in
+    let size : n ≡ length (take (length src - read) (drop read src)) =
+    omega (arith, e, length-take (length src - read) (drop read src), length-drop read src) in
+    let fits = putting_fits src old new read written room same d in
+    let rest = tail_whole (take (length src - read) (drop read src)) block _ sub n count text size fits long is w in
+    putting_rest src old new sub read written count u room same d (rw (take_rest src read) at rest)

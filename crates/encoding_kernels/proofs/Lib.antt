@@ -19,6 +19,7 @@ pub mod SignedLemmas
 pub mod SumLemmas
 pub mod SurrogatePairsLemmas
 pub mod UniformLemmas
+pub mod UnpairedLemmas
 pub mod Utf16ToUtf8Lemmas
 pub mod Utf8LookupLemmas
 pub mod Utf8ToUtf16Lemmas

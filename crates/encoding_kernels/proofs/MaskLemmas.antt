@@ -3,14 +3,15 @@
 use Rattle.std.proofs.Common.{◌≡◌, ℕ, ◌-◌, ◌^◌, ◌+◌, ◌<◌, ◌≤◌, ◌↔◌, IsTrue, Bool, true, false, not, cond, ◌&&◌, ◌||◌, eqb, leb, ltb, inl, inr, List, length, get_or, map, replicate, bit_and, bit_or, bit_xor, refl, sym, ap, ◌∙◌, arith, subst, zero, suc, ◌*◌, ◌/◌, ◌%◌, [], ◌∷◌, Fits, w16, w8}
 use Rattle.std.proofs.lemmas.Bool.{cases_lt, false≢true, leb-false, lt-leb, eqb-true, eq-eqb, not-true, not-false, not_from_false, not_from_true}
 use Rattle.std.specs.Int.Bits.{and_self, and_zero_l, and_zero_r, or_self, or_zero_l, or_zero_r, xor_self, xor_zero_l, xor_zero_r}
-use Rattle.std.specs.Simd.Lanes.{chunk, zip2, top, sel_l, fold_l, Each1}
-use Rattle.std.proofs.lemmas.Simd.{trailing_mask_l, Each1-get_or, get_or-zip2}
+use Rattle.std.specs.Simd.Lanes.{chunk, zip2, top, sel_l, fold_l, Each1, number_l, digits_l}
+use Rattle.std.proofs.lemmas.Simd.{trailing_mask_l, Each1-get_or, get_or-zip2, Each1-from_get_or, get_or_wider, get_or-chunk}
 use lib.Count.{count_trailing_zeros}
 use mir.Syntax.{Width}
 use mir.Val.{bits, hbits}
-use Rattle.encoding_kernels.specs.Scans.{HasLanes, Marks}
-use Rattle.encoding_kernels.proofs.VectorLemmas.{HasLanes_load, HasLanes-zip2, HasLanes-splat, HasLanes-select, HasLanes_same, compared, top_compared, mask_of, mask_is, IsFirstSet, first_set, first_none, no_bit_from, HasLanes-itself}
-use Rattle.std.proofs.lemmas.Nat.{le_or_l, le_or_r}
+use Rattle.encoding_kernels.specs.Scans.{HasLanes, Marks, PassBetween}
+use Rattle.encoding_kernels.proofs.VectorLemmas.{HasLanes_load, HasLanes-zip2, HasLanes-splat, HasLanes-select, HasLanes_same, compared, top_compared, mask_of, mask_is, IsFirstSet, first_set, first_none, no_bit_from, HasLanes-itself, sixteen_lanes}
+use Rattle.std.proofs.lemmas.Nat.{le_or_l, le_or_r, and_le_l}
+use Rattle.std.proofs.lemmas.List.{get_or_past}
 use Rattle.std.proofs.lemmas.Nat.Bits.{and_high_mask}
 use Rattle.std.proofs.lemmas.Bool.Decides.{nat_tests}
 use lib.Lanes.{zip2}
@@ -120,6 +121,59 @@ marks_below w n at bound xs room few =
     marks_of (λ k. get_or xs k 0 < bound) at (tests_of w leb (HasLanes-splat n bound) (HasLanes_load at n xs room)) few
     (λ k l. (leb-false bound _, lt-leb bound _))
 
+-- ---- the greatest lanes of four vectors
+abbrev greater : ℕ → ℕ → ℕ
+greater a b = cond (ltb a b) b a
+
+greater_below : (a b bound : ℕ) → (greater a b < bound) ↔ ((a < bound) × (b < bound))
+greater_below a b bound = (λ l. grind (arith, nat_tests), λ l. grind (arith, nat_tests))
+
+abbrev greater_lanes : Width → List ℕ → List ℕ → List ℕ
+greater_lanes w a b = sel_l (map (top (hbits w)) (zip2 (compared w ltb) a b)) b a
+
+HasLanes-greater : (w : Width) {n : ℕ} {a b : List ℕ} {f g : ℕ → ℕ} → HasLanes n a f → HasLanes n b g
+    → HasLanes n (greater_lanes w a b) (λ k. greater (f k) (g k))
+HasLanes-greater w p q = chosen_by (tests_of w ltb p q) q p
+
+-- a range of four times n indices
+each_of_four : (P : ℕ → Type 0) (n at : ℕ) → ((k : ℕ) → k < n → P (at + k) × P (at + n + k) × P (at + 2 * n + k) × P (at + 3 * n + k))
+    → PassBetween P at (at + 4 * n)
+each_of_four P n at h j from to = elim (cases_lt j (at + 2 * n)) [
+  | inl l ↦ elim (cases_lt j (at + n)) [
+    | inl m ↦ subst P {x = at + (j - at)} {y = j} (omega arith) (h (j - at) (omega arith)).0
+    | inr m ↦ subst P {x = at + n + (j - (at + n))} {y = j} (omega arith) (h (j - (at + n)) (omega arith)).1
+  ]
+  | inr l ↦ elim (cases_lt j (at + 3 * n)) [
+    | inl m ↦ subst P {x = at + 2 * n + (j - (at + 2 * n))} {y = j} (omega arith) (h (j - (at + 2 * n)) (omega arith)).2
+    | inr m ↦ subst P {x = at + 3 * n + (j - (at + 3 * n))} {y = j} (omega arith) (h (j - (at + 3 * n)) (omega arith)).3
+  ]
+]
+
+module _ (w : Width) (n at bound : ℕ) (xs : List ℕ) (room : at + 4 * n ≤ length xs) (few : n ≤ 64) where
+  abbrev pub greatest : List ℕ
+  greatest = greater_lanes w (greater_lanes w (chunk at n xs) (chunk (at + n) n xs)) (greater_lanes w (chunk (at + 2 * n) n xs) (chunk (at + 3 * n) n xs))
+
+  greatest_tests : HasTests w n (zip2 (compared w leb) (replicate n bound) greatest) (λ k. leb bound
+      (greater (greater (get_or xs (at + k) 0) (get_or xs (at + n + k) 0)) (greater (get_or xs (at + 2 * n + k) 0) (get_or xs (at + 3 * n + k) 0))))
+  greatest_tests = tests_of w leb (HasLanes-splat n bound)
+      (HasLanes-greater w (HasLanes-greater w (HasLanes_load at n xs (omega arith)) (HasLanes_load (at + n) n xs (omega arith)))
+      (HasLanes-greater w (HasLanes_load (at + 2 * n) n xs (omega arith)) (HasLanes_load (at + 3 * n) n xs (omega arith))))
+
+  -- no greatest lane reaches the bound if and only if all are below it
+  pub four_below : (mask_of (hbits w) (zip2 (compared w leb) (replicate n bound) greatest) ≡ 0) ↔ PassBetween (λ k. get_or xs k 0 < bound) at (at + 4 * n)
+  four_below = (
+    λ none. each_of_four (λ k. get_or xs k 0 < bound) n at (λ k l.
+        let below = leb-false bound _ ((none_is_first greatest_tests few none).before k l) in
+        let both = (greater_below _ _ bound).0 below in
+        let first = (greater_below _ _ bound).0 both.0 in
+        let last = (greater_below _ _ bound).0 both.1 in
+        (first.0, first.1, last.0, last.1)),
+    λ h. no_bit_from (hbits w) greatest_tests.lanes few (λ k l. top_compared w _ ∙ lt-leb bound _ ((greater_below _ _ bound).1 (
+      (greater_below _ _ bound).1 (h (at + k) (omega arith) (omega arith), h (at + n + k) (omega arith) (omega arith)),
+      (greater_below _ _ bound).1 (h (at + 2 * n + k) (omega arith) (omega arith), h (at + 3 * n + k) (omega arith) (omega arith)),
+    ))),
+  )
+
 -- two tests in one
 pub and_both : (a b : Bool) → IsTrue (a && b) → IsTrue a × IsTrue b
 and_both true b t = (refl, t)
@@ -137,23 +191,48 @@ above_each a [] k = omega arith
 above_each a (x ∷ xs) zero = omega (arith, le_or_r a x, above_start (bit_or a x) xs)
 above_each a (x ∷ xs) (suc k) = above_each (bit_or a x) xs k
 
+-- ---- lanes that are zero, by words of eight bytes
+number_zero : (xs : List ℕ) → number_l 256 xs ≡ 0 → (k : ℕ) → get_or xs k 0 ≡ 0
+number_zero [] e k = get_or_past {X = ℕ} [] k 0 (omega arith)
+number_zero (x ∷ xs) e zero = omega (arith, e)
+number_zero (x ∷ xs) e (suc k) = number_zero xs (omega (arith, e)) k
+
+pub zero_words : (xs : List ℕ) → Each1 (Fits w8) xs → joined 0 (digits_l (2 ^ 64) 4 (number_l 256 xs)) ≡ 0 → IsZeroTo xs 32
+zero_words xs fits none = record {
+  each = λ i l.
+      let fit : Each1 (λ x. x < 256) xs = Each1-from_get_or (λ x. x < 256) xs 0 (λ k l. (Each1-get_or (Fits w8) xs k 0 l fits).fits) in
+      let j = i / 8 in
+      let word : get_or (digits_l (2 ^ 64) 4 (number_l 256 xs)) j 0 ≡ 0 = omega (arith, above_each 0 (digits_l (2 ^ 64) 4 (number_l 256 xs)) j, none) in
+      let part = number_zero (chunk (8 * j) 8 xs) (sym (get_or_wider 256 8 (2 ^ 64) 4 xs j refl fit (omega arith)) ∙ word) (i % 8) in
+      let place : i ≡ 8 * j + i % 8 = omega arith in
+      ap (λ k. get_or xs k 0) place ∙ sym (get_or-chunk (8 * j) 8 xs (i % 8) 0 (omega arith)) ∙ part;
+}
+
 module _ (us : List ℕ) (long : length us ≡ 16) (fit : Each1 (Fits w16) us) where
-  top_zero : (bits : ℕ) → joined 0 (zip2 bit_and us (replicate 16 bits)) ≡ 0 → (k : ℕ) → k < 16 → bit_and (get_or us k 0) bits ≡ 0
+  abbrev pub bits_of : ℕ → List ℕ
+  bits_of bits = zip2 bit_and us (replicate 16 bits)
+
+  unit_small : (k : ℕ) → k < 16 → get_or us k 0 < 65536
+  unit_small k l = (Each1-get_or (Fits w16) us k 0 (omega (arith, long)) fit).fits
+
+  top_zero : (bits : ℕ) → IsZeroTo (digits_l 256 32 (number_l 65536 (bits_of bits))) 32 → (k : ℕ) → k < 16 → bit_and (get_or us k 0) bits ≡ 0
   top_zero bits none k l =
       let lanes = HasLanes-zip2 bit_and (HasLanes-itself 16 us long) (HasLanes-splat 16 bits) in
-      omega (arith, lanes.each k l, above_each 0 (zip2 bit_and us (replicate 16 bits)) k, none)
+      let bytes = sixteen_lanes {words = bits_of bits} {f = λ j. bit_and (get_or us j 0) bits} lanes
+      (λ j m. omega (arith, and_le_l (get_or us j 0) bits, unit_small j m)) k l in
+      omega (arith, bytes.0, bytes.1, none.each (2 * k) (omega arith), none.each (2 * k + 1) (omega arith))
 
-  pub all_ascii : IsTrue (eqb (joined 0 (zip2 bit_and us (replicate 16 0xFF80))) 0) → (k : ℕ) → k < 16 → get_or us k 0 < 0x80
-  all_ascii t k l =
+  pub all_ascii : IsZeroTo (digits_l 256 32 (number_l 65536 (bits_of 0xFF80))) 32 → (k : ℕ) → k < 16 → get_or us k 0 < 0x80
+  all_ascii none k l =
       let x = get_or us k 0 in
-      let top_bits : bit_and x 0xFF80 ≡ x / 128 * 128 = and_high_mask 16 7 (omega arith) x (Each1-get_or (Fits w16) us k 0 (omega (arith, long)) fit).fits in
-      omega (arith, top_bits, top_zero 0xFF80 (eqb-true _ 0 t) k l)
+      let top_bits : bit_and x 0xFF80 ≡ x / 128 * 128 = and_high_mask 16 7 (omega arith) x (unit_small k l) in
+      omega (arith, top_bits, top_zero 0xFF80 none k l)
 
-  pub all_two_byte : IsTrue (eqb (joined 0 (zip2 bit_and us (replicate 16 0xF800))) 0) → (k : ℕ) → k < 16 → get_or us k 0 < 0x800
-  all_two_byte t k l =
+  pub all_two_byte : IsZeroTo (digits_l 256 32 (number_l 65536 (bits_of 0xF800))) 32 → (k : ℕ) → k < 16 → get_or us k 0 < 0x800
+  all_two_byte none k l =
       let x = get_or us k 0 in
-      let top_bits : bit_and x 0xF800 ≡ x / 2048 * 2048 = and_high_mask 16 11 (omega arith) x (Each1-get_or (Fits w16) us k 0 (omega (arith, long)) fit).fits in
-      omega (arith, top_bits, top_zero 0xF800 (eqb-true _ 0 t) k l)
+      let top_bits : bit_and x 0xF800 ≡ x / 2048 * 2048 = and_high_mask 16 11 (omega arith) x (unit_small k l) in
+      omega (arith, top_bits, top_zero 0xF800 none k l)
 
 -- ---- lanes that differ from zero
 same : (x : ℕ) → not (eqb x 0) ≡ false → x ≡ 0

@@ -3,9 +3,9 @@
 use Rattle.std.proofs.Common.{◌≡◌, ℕ, ◌+◌, ◌<◌, ◌≤◌, inl, inr, List, length, ◌++◌, take, drop, take-add, length-take-le, length-drop, set, slice_index, sym, arith, subst, zero, suc, ◌*◌, ◌/◌, drop-drop, get_or, refl, ap, ◌∙◌, ◌-◌, Some, [], ◌∷◌, min, None, Option, length-take}
 use Rattle.std.specs.Str.{IsAscii}
 use Rattle.std.proofs.lemmas.Bool.{cases_lt}
-use Rattle.std.proofs.lemmas.List.{get_or-take, get_or_past, length-take, take_more, get_or-drop, take_all, take-take}
+use Rattle.std.proofs.lemmas.List.{get_or-take, get_or_past, length-take, take_more, get_or-drop, take_all, take-take, drop_more, set_split}
 use Rattle.encoding_definitions.specs.Prefixes.{IsLongestPrefix, WritesPrefix}
-use Rattle.encoding_kernels.specs.Scans.{BelowUpTo, AllBelow, IsRunBelow}
+use Rattle.encoding_kernels.specs.Scans.{BelowUpTo, AllBelow, IsRunBelow, BelowBetween}
 use Rattle.encoding_definitions.proofs.PrefixesLemmas.{WritesPrefix_push, WritesPrefix_put, WritesPrefix-nil, WritesPrefix-length, WritesPrefix-same, WritesPrefix_again}
 use Rattle.std.proofs.Math.Nat.{div-mul-le_self, mul-le-mul_right}
 use Rattle.std.specs.Simd.{first_chunks}
@@ -49,6 +49,13 @@ pub ascii_prefix_at : (xs : List ℕ) (n : ℕ) → n < length xs → ((k : ℕ)
     → IsLongestPrefix IsAscii xs n
 ascii_prefix_at xs n l h s = prefix_before (λ b. b < 0x80) (omega arith) xs n (omega arith) h (λ _ low. omega arith)
 
+-- units that are each below 0x80 are ASCII
+pub ascii_below : (xs : List ℕ) → BelowBetween 0x80 xs 0 (length xs) → IsAscii xs
+ascii_below xs below k = elim (cases_lt k (length xs)) [
+  | inl l ↦ below k (omega arith) l
+  | inr l ↦ rw (get_or_past xs k 0 l) (omega arith)
+]
+
 -- the units of the longest ASCII prefix are below 0x80
 pub below_prefix : (xs : List ℕ) (n : ℕ) → IsLongestPrefix IsAscii xs n → BelowUpTo 0x80 xs n
 below_prefix xs n f k l = Each-at (λ b. b < 0x80) (omega arith) xs n k l f.kind
@@ -66,17 +73,14 @@ WritesPrefix_block old new after xs n m w l k put =
     let short : length (take m (drop n xs)) ≡ m = length-take-le m (drop n xs) (omega (arith, length-drop n xs)) in
     rw (take-add n m xs) (WritesPrefix_put old new after n m (take n xs) (take m (drop n xs)) w (sym short) k put)
 
--- all units are copied, by two stores that may overlap
-pub WritesPrefix_twice : (old mid new xs : List ℕ) (n : ℕ) → n ≤ length xs → length xs ≤ 2 * n → length xs ≤ length old
-    → mid ≡ take 0 old ++ (take n (drop 0 xs) ++ drop (0 + n) old)
-    → new ≡ take (length xs - n) mid ++ (take n (drop (length xs - n) xs) ++ drop (length xs - n + n) mid)
-    → WritesPrefix old new (length xs) xs
-WritesPrefix_twice old mid new xs n least most room first second =
-    let end : length xs - n + n ≡ length xs = omega arith in
-    let once = WritesPrefix_block old old mid xs 0 n (WritesPrefix-nil old) (omega arith) (omega arith) first in
-    let all = WritesPrefix_again old mid new xs (0 + n) (length xs - n) n once (omega arith) (omega arith) (omega arith)
-    (omega (arith, WritesPrefix-length _ _ _ _ once)) second in
-    WritesPrefix-same _ _ _ _ _ _ all end (ap (λ k. take k xs) end ∙ take_all (length xs) xs (omega arith))
+-- a unit is copied, which may have been copied before
+pub WritesPrefix_one : (old new xs : List ℕ) (n at : ℕ) → WritesPrefix old new n (take n xs) → at ≤ n → n ≤ at + 1 → at < length xs → at < length new
+    → WritesPrefix old (set new at (slice_index xs at)) (at + 1) (take (at + 1) xs)
+WritesPrefix_one old new xs n at w l m within room =
+    let next : suc at ≡ at + 1 = omega arith in
+    let put = set_split new at (slice_index xs at) room ∙ ap (λ k. take at new ++ (slice_index xs at ∷ drop k new)) next
+    ∙ ap (λ ys. take at new ++ (take 1 ys ++ drop (at + 1) new)) (sym (drop_more xs at 0 within)) in
+    WritesPrefix_again old new _ xs n at 1 w l m (omega arith) (omega arith) put
 
 -- stride i of a list
 pub numbered : {X : Type 0} (n k : ℕ) (xs : List X) (i : ℕ) (d : List X) → i < k → get_or (first_chunks n k xs) i d ≡ take n (drop (i * n) xs)

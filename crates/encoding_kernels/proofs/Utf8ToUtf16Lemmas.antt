@@ -1,24 +1,23 @@
 -- UTF-16 of a text by its bytes, and writing it prefix by prefix.
-use Rattle.std.proofs.Common.{◌≡◌, ℕ, zero, suc, ◌+◌, ◌-◌, ◌*◌, ◌/◌, ◌%◌, ◌<◌, ◌≤◌, inl, inr, Bool, true, false, ◌&&◌, if◌then◌else◌, leb, ltb, List, [], ◌∷◌, ◌++◌, length, take, drop, get_or, replicate, bit_or, encode_utf8, encode_utf8_all, refl, sym, ap, ◌∙◌, arith, subst, take-add}
+use Rattle.std.proofs.Common.{◌≡◌, ℕ, zero, suc, ◌+◌, ◌-◌, ◌*◌, ◌/◌, ◌%◌, ◌<◌, ◌≤◌, inl, inr, true, false, ◌&&◌, if◌then◌else◌, leb, ltb, List, [], ◌∷◌, ◌++◌, length, take, drop, get_or, bit_or, encode_utf8, encode_utf8_all, refl, sym, ap, ◌∙◌, arith, subst, take-add}
 use lib.Utf8.{scalar, scalar_cases}
 use Rattle.std.specs.Char.{IsScalar}
 use Rattle.std.specs.Char.Escape.{encode_utf16}
 use Rattle.std.specs.Str.{all_scalars, chars, IsUtf8, IsCharBoundary, IsAscii}
 use Rattle.std.specs.List.{flat_map}
-use Rattle.std.specs.Simd.Lanes.{mask_l, put_chunk}
+use Rattle.std.specs.Simd.Lanes.{put_chunk}
 use Rattle.std.proofs.str.Laws.{one, two, three, four}
 use Rattle.std.proofs.lemmas.Bool.{cond-true, cond-false, cases_lt, lt-leb, le-leb, lt-ltb, le-ltb, and_parts, and_from}
 use Rattle.std.proofs.lemmas.Bool.Decides.{nat_tests}
 use Rattle.std.proofs.lemmas.Grind.{same_number_lists}
-use Rattle.std.proofs.lemmas.Simd.{length-replicate, put_chunk_is}
-use Rattle.std.proofs.lemmas.List.{length-append, length-drop, length-take-le, take-append-drop, take_at, take-take, drop_at, drop-drop, get_or-drop, get_or-take, take-append-le}
-use Rattle.std.proofs.lemmas.Str.{IsUtf8-take, IsUtf8-drop, IsUtf8-from_ascii, IsCharBoundary-after_ascii, IsCharBoundary-start, encodes-IsAscii, encodes_same, chars-IsAscii}
+use Rattle.std.proofs.lemmas.Simd.{put_chunk_is}
+use Rattle.std.proofs.lemmas.List.{length-append, length-drop, length-take-le, take_at, drop_at, drop-drop, get_or-drop, get_or-take, take-append-le}
+use Rattle.std.proofs.lemmas.Str.{IsUtf8-drop, IsUtf8-from_ascii, IsCharBoundary-after_ascii, IsCharBoundary-start, encodes-IsAscii, encodes_same, chars-IsAscii}
 use Rattle.encoding_definitions.specs.Prefixes.{WritesPrefix}
+use Rattle.encoding_kernels.specs.Following.{IsClosedAt}
 use Rattle.encoding_kernels.specs.Scans.{HasLanes}
-use Rattle.encoding_kernels.specs.EndingUnits.{BeginsThree, keep, ends_unit, low_bits, triple_unit, unit_at, units_after, ends_after, WritesCompressed, WritesUtf16}
-use Rattle.encoding_kernels.proofs.CompressLemmas.{keep_pad}
+use Rattle.encoding_kernels.specs.EndingUnits.{BeginsThree, keep, ends_unit, low_bits, triple_unit, unit_at, units_after, ends_after, WritesUtf16}
 use Rattle.encoding_kernels.proofs.VectorLemmas.{same_below}
-use Rattle.encoding_kernels.proofs.CodeUnitLemmas.{length-ends}
 use Rattle.encoding_definitions.proofs.PrefixesLemmas.{written_is}
 
 -- ---- one byte: no code unit ends with it, or one does
@@ -160,52 +159,56 @@ units_of_characters (c ∷ cs) h x y a X Y A =
       ]
     ]
 
--- ---- a block
-prefix_units : (n x y a : ℕ) (bs : List ℕ) → keep (take n (ends_after a bs)) (units_after x y a bs) ≡ units_from x y a (take n bs)
-unfolding keep ends_after units_after
-prefix_units zero x y a bs = refl
-prefix_units (suc n) x y a [] = refl
-prefix_units (suc n) x y a (b ∷ bs) = ap (λ us. (if ends_unit a b then unit_at x y a b ∷ [] else []) ++ us) (prefix_units n y a b bs)
+-- ---- where no character is cut
+-- after x, y and a, what doesn't continue one of them and isn't ASCII begins a character
+abbrev Begins : ℕ → ℕ → ℕ → List ℕ → ℕ → Type 0
+Begins x y a bs n = get_or (x ∷ y ∷ a ∷ bs) n 0 < 0xF0 → get_or (y ∷ a ∷ bs) n 0 < 0xE0 → get_or (a ∷ bs) n 0 < 0xC0 → n < length bs
+    → 128 ≤ get_or bs n 0 → 192 ≤ get_or bs n 0
 
--- the marks of the sixteen bytes before `end`, from which the mask is made
-abbrev marks_to : List ℕ → ℕ → List Bool
-marks_to src end = take end (ends_after 0 (take 16 src)) ++ replicate (16 - end) false
+begins_step : (x y a b : ℕ) (bs : List ℕ) → Begins x y a (b ∷ bs) 0 → ((n : ℕ) → Begins y a b bs n) → (n : ℕ) → Begins x y a (b ∷ bs) n
+begins_step x y a b bs first more zero = first
+begins_step x y a b bs first more (suc n) = λ p q r l h. more n p q r (omega arith) h
 
-pub marks_long : (src : List ℕ) (end : ℕ) → 16 ≤ length src → end ≤ 16 → length (marks_to src end) ≡ 16
-marks_long src end room few =
-    let size : length (ends_after 0 (take 16 src)) ≡ 16 = length-ends 0 (take 16 src) ∙ length-take-le 16 src room in
-    omega (
-      arith,
-      length-append (take end (ends_after 0 (take 16 src))) (replicate {A = Bool} (16 - end) false),
-      length-take-le end (ends_after 0 (take 16 src))
-          (omega (arith, size)),
-      length-replicate {A = Bool} (16 - end) false,
-    )
+begins_two : (x y a p q : ℕ) (bs : List ℕ) → 192 ≤ p → ((n : ℕ) → Begins a p q bs n) → (n : ℕ) → Begins x y a (p ∷ q ∷ bs) n
+begins_two x y a p q bs l more = begins_step x y a p (q ∷ bs) (λ _ _ _ _ _. l) (begins_step y a p q bs (λ _ _ m _ _. absurd (omega (arith, l, m))) more)
 
-pub puts_block : (src old new first last : List ℕ) (end kept count reach : ℕ) → IsUtf8 src → 16 ≤ length src → end ≤ 16 → IsCharBoundary src end
-    → (first ≡ take 8 (units_after 0 0 0 (take 16 src))) × (last ≡ drop 8 (units_after 0 0 0 (take 16 src))) → kept ≡ mask_l (marks_to src end)
-    → ((marks : List Bool) → length marks ≡ 16 → kept ≡ mask_l marks → WritesCompressed marks (first ++ last) old new count reach)
-    → WritesUtf16 src old new end count reach
-puts_block src old new first last end kept count reach u room few boundary halves is writes =
-    let us = first ++ last in
-    let e : us ≡ units_after 0 0 0 (take 16 src) = (λ i. halves.0 i ++ halves.1 i) ∙ take-append-drop 8 (units_after 0 0 0 (take 16 src)) in
-    let done = writes (marks_to src end) (marks_long src end room few) is in
-    let text = IsUtf8-take src end u boundary in
-    let cs = text.0 in
-    let marks = take end (ends_after 0 (take 16 src)) in
-    let units : keep (marks ++ replicate (16 - end) false) us ≡ flat_map encode_utf16 cs =
-    keep_pad marks us (16 - end) ∙ ap (keep marks) e ∙ prefix_units end 0 0 0 (take 16 src) ∙ ap (units_from 0 0 0) (take-take end 16 src few ∙ sym text.1.1)
-    ∙ units_of_characters cs text.1.0 0 0 0 (omega arith) (omega arith) (omega arith) in
-    record {
-      taken = cs;
-      are_scalars = text.1.0;
-      within = boundary.0;
-      spelled = text.1.1;
-      rest = IsUtf8-drop src end u boundary;
-      counted = done.counted ∙ ap length units;
-      placed = done.placed ∙ units;
-      following = done.following;
-    }
+begins_three : (x y a p q r : ℕ) (bs : List ℕ) → 224 ≤ p → ((n : ℕ) → Begins p q r bs n) → (n : ℕ) → Begins x y a (p ∷ q ∷ r ∷ bs) n
+begins_three x y a p q r bs l more =
+    begins_two x y a p q (r ∷ bs) (omega arith) (begins_step a p q r bs (λ _ m _ _ _. absurd (omega (arith, l, m))) more)
+
+begins_four : (x y a p q r s : ℕ) (bs : List ℕ) → 240 ≤ p → ((n : ℕ) → Begins q r s bs n) → (n : ℕ) → Begins x y a (p ∷ q ∷ r ∷ s ∷ bs) n
+begins_four x y a p q r s bs l more =
+    begins_three x y a p q r (s ∷ bs) (omega arith) (begins_step p q r s bs (λ m _ _ _ _. absurd (omega (arith, l, m))) more)
+
+begins_all : (cs : List ℕ) → all_scalars cs ≡ true → (x y a n : ℕ) → Begins x y a (encode_utf8_all cs) n
+begins_all [] h x y a n = λ p q r l m. absurd (omega arith)
+begins_all (c ∷ cs) h x y a n =
+    let more = begins_all cs (and_parts (scalar c) (all_scalars cs) h).1 in
+    let bs = encode_utf8_all cs in
+    let at = λ (bytes : List ℕ) (e : encode_utf8 c ≡ bytes) (b : Begins x y a (bytes ++ bs) n). subst (λ (xs : List ℕ). Begins x y a (xs ++ bs) n) (sym e) b in
+    elim (cases_lt c 128) [
+      | inl p ↦ at (c ∷ []) (one c p) (begins_step x y a c bs (λ _ _ _ _ m. absurd (omega (arith, p, m))) (more y a c) n)
+      | inr p ↦ elim (cases_lt c 2048) [
+        | inl q ↦
+            let b = 192 + c / 64 in
+            let d = 128 + c % 64 in at (b ∷ d ∷ []) (two c p q) (begins_two x y a b d bs (omega arith) (more a b d) n)
+        | inr q ↦ elim (cases_lt c 65536) [
+          | inl r ↦
+              let b = 224 + c / 4096 in
+              let d = 128 + c / 64 % 64 in
+              let f = 128 + c % 64 in at (b ∷ d ∷ f ∷ []) (three c q r) (begins_three x y a b d f bs (omega arith) (more b d f) n)
+          | inr r ↦
+              let b = 240 + c / 262144 in
+              let d = 128 + c / 4096 % 64 in
+              let f = 128 + c / 64 % 64 in
+              let k = 128 + c % 64 in at (b ∷ d ∷ f ∷ k ∷ []) (four c r) (begins_four x y a b d f k bs (omega arith) (more d f k) n)
+        ]
+      ]
+    ]
+
+pub IsCharBoundary-closed : (src : List ℕ) (n : ℕ) → IsUtf8 src → n ≤ length src → IsClosedAt src n → IsCharBoundary src n
+IsCharBoundary-closed src n (cs, (h, e)) within c =
+    (within, λ l m. subst (λ (bs : List ℕ). Begins 0 0 0 bs n) e (begins_all cs h 0 0 0 n) c.0 c.1 c.2 l m)
 
 -- ---- ASCII
 ascii_units : (bs : List ℕ) → ((i : ℕ) → get_or bs i 0 < 128) → flat_map encode_utf16 bs ≡ bs

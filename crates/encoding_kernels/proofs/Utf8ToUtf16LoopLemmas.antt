@@ -123,14 +123,14 @@ reaches src old new n k reach most l p =
     let past = λ (xs : List ℕ). ap (λ m. drop m xs) (sym e) ∙ sym (drop-drop (most - reach) reach xs) in
     moved p refl (past new ∙ ap (drop (most - reach)) p.following ∙ sym (past old))
 
--- eight units are still to be written after all but the `later` ones
-pub due_block : (src old new : List ℕ) (n k later : ℕ) → IsUtf8 src → 8 ≤ later + (length src - n) / 3 → WritesUtf16 src old new n k (k + 8 - later)
+-- a third of the bytes left are still to be written, in units
+pub due_block : (src old new : List ℕ) (n k reach : ℕ) → IsUtf8 src → reach ≤ k + (length src - n) / 3 → WritesUtf16 src old new n k reach
     → WritesUtf16 src old new n k (units_in src)
-due_block src old new n k later u l p =
+due_block src old new n k reach u l p =
     let more = p.rest in
     let left : length src - n ≤ 3 * units_in (drop n src) =
     omega (arith, units_of_part16 more.0 (drop n src) more more.1.1, units_third more.0 more.1.0, ap length more.1.1, length-drop n src) in
-    reaches src old new n k (k + 8 - later) (units_in src) (omega (arith, left, l, units_split src old new n k (k + 8 - later) u p)) p
+    reaches src old new n k reach (units_in src) (omega (arith, left, l, units_split src old new n k reach u p)) p
 
 pub due_exact : (src old new : List ℕ) (n k : ℕ) → IsUtf8 src → WritesUtf16 src old new n k k → WritesUtf16 src old new n k (units_in src)
 due_exact src old new n k u p = reaches src old new n k k (units_in src) (omega (arith, units_split src old new n k k u p)) p
@@ -279,11 +279,6 @@ putting_some d = record {
   following = d.following;
 }
 
--- what was stored before is overwritten, up to the units of the text
-pub puts_again : {src old between new : List ℕ} {m j n k : ℕ} → WritesUtf16 src old between m j (units_in src)
-    → WritesUtf16 src between new n k (units_in src) → WritesUtf16 src old new n k (units_in src)
-puts_again first p = moved p refl (p.following ∙ first.following)
-
 -- the whole text
 pub puts_text : (src old new : List ℕ) (k : ℕ) → IsUtf8 src → WritesPrefix old new k (flat_map encode_utf16 (chars src))
     → WritesUtf16 src old new (length src) k (units_in src)
@@ -377,7 +372,7 @@ putting_prefix src old new at u d =
       following = p.following;
     }
 
--- ---- the end of a text: a block of it followed by zeros, and code units that are copied from a block of their own
+-- ---- the end of a text: a block of it, followed by zeros
 -- zeros are a text
 pub zeros_text : (n m : ℕ) → IsUtf8 (drop n (replicate m 0))
 zeros_text zero zero = ([], (refl, refl))
@@ -385,17 +380,10 @@ zeros_text (suc n) zero = ([], (refl, refl))
 zeros_text zero (suc m) = let text = zeros_text zero m in (0 ∷ text.0, (and_from _ _ refl text.1.0, λ i. one 0 (omega arith) i ++ text.1.1 i))
 zeros_text (suc n) (suc m) = zeros_text n m
 
-module _ {src old new : List ℕ} {n k reach : ℕ} (p : WritesUtf16 src old new n k reach) where
-  -- no more code units than bytes
-  pub puts_few : k ≤ n
-  puts_few = omega (arith, p.counted, length-utf16 p.taken p.are_scalars, ap length p.spelled, length-take n src, p.within)
-
-  pub puts_long : length (take k new) ≡ k
-  puts_long = ap length p.placed ∙ sym p.counted
-
-  -- the code units copied to another list
-  pub puts_single : (places : List ℕ) → WritesUtf16 src places (take k new ++ drop k places) n k k
-  puts_single places = moved p (take_at (take k new) (drop k places) k puts_long) (drop_at (take k new) (drop k places) k puts_long)
+-- no more code units than bytes
+puts_few : {src old new : List ℕ} {n k reach : ℕ} → WritesUtf16 src old new n k reach → k ≤ n
+puts_few {src} {old} {new} {n} {k} {reach} p =
+    omega (arith, p.counted, length-utf16 p.taken p.are_scalars, ap length p.spelled, length-take n src, p.within)
 
 -- a whole text, at the start of a block
 pub puts_whole : (src block old new : List ℕ) (n k : ℕ) → IsUtf8 src → take n block ≡ src → n ≤ length old → WritesUtf16 block old new n k k

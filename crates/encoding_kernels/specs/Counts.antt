@@ -1,8 +1,10 @@
--- How many parts a text has, by sums over its indices: of the characters of four bytes and of the surrogate pairs.
+-- How many parts a text has, by sums over its indices: of the characters of four bytes, of the surrogate pairs and of the
+-- unpaired surrogates.
 use Rattle.std.specs.Prelude.{ℕ, Bool, true, false, ◌&&◌, ◌≤◌, nat_le, List, slice_index}
 use Rattle.std.proofs.Common.{lit≤}
 use mir.Val.{bool_byte}
 use Rattle.encoding_kernels.specs.Lengths.{goes_second, is_surrogate_pair}
+use Rattle.encoding_kernels.specs.Neighbors.{pair_fault}
 
 -- the four bytes are one character
 abbrev pub is_four_bytes : ℕ → ℕ → ℕ → ℕ → Bool
@@ -15,6 +17,10 @@ begins_four_bytes bs = bool_byte (is_four_bytes (slice_index bs 0) (slice_index 
 -- 1 if the code units start with a surrogate pair, else 0
 abbrev pub begins_pair : List ℕ → ℕ
 begins_pair us = bool_byte (is_surrogate_pair (slice_index us 0) (slice_index us 1))
+
+-- 1 if exactly one of these holds: the first code unit is a high surrogate, the second is a low one; else 0
+abbrev pub begins_fault : List ℕ → ℕ
+begins_fault us = bool_byte (pair_fault (slice_index us 1) (slice_index us 0))
 
 -- no term is greater than 2
 pub bool_few : (b : Bool) → bool_byte b ≤ 2

@@ -4,6 +4,7 @@
 
 pub mod bidi;
 pub mod latin1;
+pub mod lengths;
 pub mod scalar;
 pub mod simd;
 pub mod tuning;

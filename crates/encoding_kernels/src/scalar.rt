@@ -10,11 +10,20 @@ ghost use Rattle.encoding_definitions.specs.Prefixes.{WritesPrefix};
 ghost use Rattle.std.specs.Char.Utf16.{surrogate_pair_char};
 ghost use Rattle.encoding_definitions.specs.Utf16.{IsHighSurrogate, IsLowSurrogate};
 
+/// The scalar value that is written for a malformed sequence or an unpaired surrogate.
+pub const REPLACEMENT_CHARACTER: u32 = 0xFFFD;
+
+/// The code unit of U+FFFD.
+pub const REPLACEMENT_UNIT: u16 = 0xFFFD;
+
+/// The UTF-8 of U+FFFD.
+pub const REPLACEMENT_UTF8: [u8; 3] = [0xEF, 0xBF, 0xBD];
+
 /// Returns whether the byte begins a sequence of several bytes.
 pub fn begins_several(byte: u8) -> bool
     ensures { IsTrue result ↔ IsIncomplete (byte ∷ []) }
 {
-    0xC2 <= byte && byte <= 0xF4
+    byte.wrapping_sub(0xC2) < 0x33
 }
 
 /// Returns whether the byte may be the second of a sequence of several that begins with `lead`.

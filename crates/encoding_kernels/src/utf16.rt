@@ -2,4 +2,5 @@
 
 pub mod count;
 pub mod length;
+pub mod unpaired;
 pub mod validate;

@@ -1,6 +1,11 @@
 //! UTF-16 to UTF-8 by blocks of sixteen code units. A block stores forward: after its own bytes it may change up to
-//! sixteen, which later units overwrite, since each unit has at least one byte.
+//! sixteen, which later units overwrite, since each unit has at least one byte. `text` has the calls, and loops over the
+//! `kinds` of blocks; each kind has a module.
 
-pub mod convert;
-pub mod mixed;
-mod uniform;
+mod kinds;
+mod mixed;
+mod pairs;
+pub mod tail;
+pub mod text;
+mod three_byte;
+mod two_byte;

@@ -1,8 +1,8 @@
-//! The UTF-16 of well-formed UTF-8.
+//! The UTF-16 of well-formed UTF-8: `text` converts by `groups`, these by `strides`, and these by `code_units`. What needs none
+//! of them is in `block`.
 
 mod block;
-pub(crate) mod code_units;
-pub mod convert;
+mod code_units;
 mod groups;
-mod long_text;
-pub mod short_text;
+mod strides;
+pub mod text;

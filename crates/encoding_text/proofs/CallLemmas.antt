@@ -1,16 +1,14 @@
 -- How a call of the decoder ends, and the first parts that it yields of the bytes that it was passed.
-use Rattle.std.proofs.Common.{◌≡◌, ◌≢◌, ℕ, ◌+◌, ◌<◌, ◌≤◌, inl, inr, Bool, List, [], ◌∷◌, ◌++◌, length, take, drop, slice_index, refl, sym, ap, ◌∙◌, arith, subst, take-add, ◌⊎◌, ◌-◌, true, false, map, encode_utf8_all}
+use Rattle.std.proofs.Common.{◌≡◌, ◌≢◌, ℕ, ◌<◌, ◌≤◌, inl, inr, Bool, List, [], ◌∷◌, ◌++◌, length, take, drop, slice_index, refl, sym, ap, ◌∙◌, arith, subst, ◌⊎◌, ◌-◌, true, false, map, encode_utf8_all}
 use Rattle.std.proofs.lemmas.Bool.{cases_Bool, cases_lt}
-use Rattle.std.proofs.lemmas.List.{length-append, length-drop, length-take, take-append-drop, drop-drop, take_all, drop_all, take_more, drop_more, append-nil, append_assoc}
+use Rattle.std.proofs.lemmas.List.{length-append, take-append-drop, take_all, drop_all, take_more, drop_more, append-nil, append_assoc}
 use Rattle.encoding_definitions.specs.Sequence.{IsSequence, IsIncomplete, IsNeverLeading, IsContinuation, IsSecond, IsPending}
 use Rattle.encoding_definitions.specs.Parts.{BeginsWithNoCharacter, Part, Character, IllFormed, IsFirstPart, StartsWith, Yields}
-use Rattle.encoding_text.specs.Steps.{IsRejected, Resumes, IsResultAtEnd, IsResultWithoutCharacter}
+use Rattle.encoding_text.specs.Steps.{IsRejected, IsResultAtEnd, IsResultWithoutCharacter}
 use Rattle.encoding_text.specs.Decoding.{IsMalformed, IsReported, AreDecoded, DecodeStep, IsDecodeResult}
 use Rattle.encoding_text.specs.declared.decoder.DecoderResult.{DecoderResult}
 use Rattle.encoding_text.specs.declared.decoder.DecoderResult.TheVariants.{InputEmpty, OutputFull, Malformed}
-use Rattle.encoding_text.specs.declared.decoder.pending.Resumed.TheVariants.{Ended, Complete, Rejected}
-use Rattle.encoding_definitions.proofs.SequenceLemmas.{length-IsIncomplete, HasShape-IsSequence, IsSequence-HasShape, HasOpenShape-IsIncomplete, second_more}
-use Rattle.encoding_text.proofs.PendingLemmas.{pending_incomplete}
+use Rattle.encoding_definitions.proofs.SequenceLemmas.{HasShape-IsSequence, IsSequence-HasShape, HasOpenShape-IsIncomplete, second_more}
 use Rattle.std.proofs.lemmas.Bool.Decides.{nat_tests}
 use Rattle.std.specs.Str.{all_scalars}
 use Rattle.encoding_definitions.proofs.PartsLemmas.{first_unpaired, first_open, first_rejected, same_first_part}
@@ -38,16 +36,14 @@ take_one r h = take_more r 0 0 h
 pub begins_before : (r : List ℕ) → 0 < length r → IsIncomplete (slice_index r 0 ∷ []) → IsIncomplete (take 1 r)
 begins_before r h o = subst IsIncomplete (sym (take_one r h)) o
 
-pub ended_before : (r p q after : List ℕ) (last : Bool) (result : DecoderResult) (read : ℕ) → 0 < length r → p ≡ take 1 r → Resumes p (drop 1 r) Ended read q
-    → IsResultAtEnd q last result after
+-- an incomplete sequence is all that is left
+pub ended_open : (r q after : List ℕ) (last : Bool) (result : DecoderResult) → IsIncomplete r → q ≡ r → IsResultAtEnd q last result after
     → IsResultWithoutCharacter r last result (length r) after
-ended_before r p q after last InputEmpty read h e f (same, whole, pending) =
-    let all : q ≡ r = f.1 ∙ ap (λ xs. xs ++ drop 1 r) e ∙ take-append-drop 1 r in
-    let some : q ≢ [] = λ none. omega (arith, ap length (sym all ∙ none)) in
-    (refl, same ∙ all, subst IsIncomplete all (pending_incomplete q some pending), elim (cases_Bool last) [ inl t ↦ absurd (some (whole t)) | inr g ↦ g ])
-ended_before r p q after last OutputFull read h e f s = absurd s
-ended_before r p q after last (Malformed k second) read h e f (zero, count, none, o, l) =
-    let all : q ≡ r = f.1 ∙ ap (λ xs. xs ++ drop 1 r) e ∙ take-append-drop 1 r in
+ended_open r q after last InputEmpty o all (same, whole, pending) =
+    let some : q ≢ [] = λ none. omega (arith, o.0, ap length (sym all ∙ none)) in
+    (refl, same ∙ all, o, elim (cases_Bool last) [ inl t ↦ absurd (some (whole t)) | inr g ↦ g ])
+ended_open r q after last OutputFull o all s = absurd s
+ended_open r q after last (Malformed k second) o all (zero, count, none, begun, l) =
     let size : k ≡ length r = count ∙ ap length all in
     let prefix : take k r ≡ r = take_all k r (omega (arith, size)) in (
       zero,
@@ -55,25 +51,8 @@ ended_before r p q after last (Malformed k second) read h e f (zero, count, none
       omega (arith, size),
       none,
       subst (λ xs. IsMalformed xs (drop k r) last) (sym prefix)
-          (subst (λ xs. IsMalformed r xs last) (sym (drop_all k r (omega (arith, size)))) (inr (subst IsIncomplete all o, l))),
+          (subst (λ xs. IsMalformed r xs last) (sym (drop_all k r (omega (arith, size)))) (inr (o, l))),
     )
-
-pub rejected_before : (r p q : List ℕ) (last : Bool) (k read : ℕ) → 0 < length r → p ≡ take 1 r → Resumes p (drop 1 r) (Rejected k) read q
-    → (k ≤ 3) × (k ≤ length r) × (q ≡ []) × IsMalformed (take k r) (drop k r) last
-rejected_before r p q last k read h e (short, count, o, b, more, next, rejected, none) =
-    let size : k ≡ 1 + read = omega (arith, count, ap length e, length-take 1 r) in
-    let prefix : p ++ take read (drop 1 r) ≡ take k r = ap (λ xs. xs ++ take read (drop 1 r)) e ∙ sym (take-add 1 read r) ∙ ap (λ n. take n r) (sym size) in
-    let back : drop k r ≡ b ∷ more = ap (λ n. drop n r) size ∙ sym (drop-drop read 1 r) ∙ next in (
-      omega (arith, length-IsIncomplete _ o, length-append p (take read (drop 1 r)), length-take read (drop 1 r), short, count),
-      omega (arith, size, short, length-drop 1 r),
-      none,
-      malformed_rejected (take k r) (drop k r) last b more back (subst IsIncomplete prefix o) (subst (λ xs. IsRejected xs b) prefix rejected),
-    )
-
-pub no_whole_before : (r p q bytes : List ℕ) (n read : ℕ) → p ≡ take 1 r → BeginsWithNoCharacter r → Resumes p (drop 1 r) (Complete bytes n) read q → ⊥
-no_whole_before r p q bytes n read e none (some, short, four, long, same, s, nil) =
-    let prefix : p ++ take read (drop 1 r) ≡ take (1 + read) r = ap (λ xs. xs ++ take read (drop 1 r)) e ∙ sym (take-add 1 read r) in
-    none (take (1 + read) r) (drop (1 + read) r) (sym (take-append-drop (1 + read) r)) (subst IsSequence prefix s)
 
 pub second_continues : (a b : ℕ) → IsSecond a b → IsContinuation b
 second_continues a b s = grind (arith, nat_tests)

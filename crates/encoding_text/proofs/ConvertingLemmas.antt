@@ -21,6 +21,7 @@ use Rattle.encoding_definitions.proofs.EncodingLemmas.{IsSequence-encode, flat_m
 use Rattle.encoding_definitions.proofs.PrefixesLemmas.{WritesPrefix_after, WritesPrefix-length, WritesPrefix-same, put_mid-same, IsLongestFittingPrefix-all, IsLongestFittingPrefix-stop, flat_map_push, length-prefix}
 use Rattle.encoding_definitions.proofs.Utf8Lemmas.{IsLongestPrefix-utf8, no_character_after}
 use Rattle.encoding_definitions.proofs.DecompositionLemmas.{has_parts}
+use Rattle.encoding_text.proofs.WholePrefixesLemmas as whole
 use Rattle.encoding_kernels.proofs.Utf8ToUtf16LoopLemmas.{Putting, due_ascii, putting_first}
 use Rattle.encoding_kernels.proofs.Utf8ToUtf16Lemmas.{ascii_text}
 
@@ -261,8 +262,13 @@ copied_prefix src old new room n short within all l e =
         let longer = l.longest (n + k) (omega (arith, length-take room src, fits, short)) (subst IsUtf8 (sym (take-take (n + k) room src fits)) more) in
         omega arith
 
+-- all of that prefix is ASCII
+pub ascii_prefix_text : (src : List ℕ) (room : ℕ) → room ≤ length src → IsAscii (take room src) → IsLongestPrefix IsUtf8 (take room src) room
+ascii_prefix_text src room within ascii =
+    subst (IsLongestPrefix IsUtf8 (take room src)) (length-take-le room src within) (whole.whole_text (take room src) ascii)
+
 -- a copy of such a prefix into what fits
-pub ruleset copies = (copied_prefix, cases_lt, length-take, length-take-le)
+pub ruleset copies = (copied_prefix, ascii_prefix_text, cases_lt, length-take, length-take-le)
 
 -- ---- a call that didn't fit left the destination unchanged
 pub converted_unfit : {A : Type 0} (encode : ℕ → List A) (src : List ℕ) (old new sub : List A) (read written c n : ℕ)
@@ -351,22 +357,22 @@ text_all_read src old new read written d l u =
     omega (arith, w.0, all, d.text.prefix.within)
 
 -- the ASCII prefix at the start
-pub converted_first_ascii : (src old new : List ℕ) (n : ℕ) → IsLongestPrefix IsAscii (take (length old) src) n → WritesPrefix old new n (take n src)
+pub converted_first_ascii : (src old new : List ℕ) (m n : ℕ) → IsLongestPrefix IsAscii (take m src) n → WritesPrefix old new n (take n (take m src))
     → ConvertsSome encode_utf16 src old new n n
-converted_first_ascii src old new n p w =
-    let within : n ≤ length (take (length old) src) = p.within in
-    let text = ascii_text (take n src) (subst IsAscii (take-take n (length old) src w.fits) p.kind) in
+converted_first_ascii src old new m n p w =
+    let within : n ≤ length (take m src) = p.within in
+    let same : take n (take m src) ≡ take n src = take-take n m src (omega (arith, within, length-take m src)) in
+    let text = ascii_text (take n src) (subst IsAscii same p.kind) in
     record {
       scalars = text.0.0;
       are_scalars = text.0.1.0;
-      within = omega (arith, within, length-take (length old) src);
+      within = omega (arith, within, length-take m src);
       spelled = text.0.1.1;
-      writes = WritesPrefix-same _ _ _ _ _ _ w refl (sym text.1 ∙ ap (flat_map encode_utf16) (sym (chars_from_encodes text.0.0 _ text.0 text.0.1.1)));
+      writes = WritesPrefix-same _ _ _ _ _ _ w refl (same ∙ (sym text.1
+          ∙ ap (flat_map encode_utf16) (sym (chars_from_encodes text.0.0 _ text.0 text.0.1.1))));
     }
 
 -- a text whose ASCII prefix is written
-pub putting_ascii : (src old new : List ℕ) (n : ℕ) → IsUtf8 src → length src ≤ length old
-    → IsLongestPrefix IsAscii (take (length old) src) n → WritesPrefix old new n (take n src) → Putting src old new n n
-putting_ascii src old new n u room p w =
-    let prefix = subst (λ xs. IsLongestPrefix IsAscii xs n) (take_all (length old) src room) p in
-    putting_first src old new n n u (due_ascii src old new n u prefix.within prefix.kind w)
+pub putting_ascii : (src old new : List ℕ) (n : ℕ) → IsUtf8 src → IsLongestPrefix IsAscii src n → WritesPrefix old new n (take n src)
+    → Putting src old new n n
+putting_ascii src old new n u p w = putting_first src old new n n u (due_ascii src old new n u p.within p.kind w)

@@ -113,7 +113,7 @@ module _ (surrogate src : List ℕ) (room : ℕ) (last : Bool) (r : EncoderResul
   pub read_within : read ≤ length src
   read_within = come_to.0
 
-  rest_is : drop c.taken (surrogate ++ src) ≡ after ++ drop read src
+  pub rest_is : drop c.taken (surrogate ++ src) ≡ after ++ drop read src
   rest_is = come_to.1
 
   -- they are the first parts for any units that follow, and none do if the call is marked last

@@ -1,5 +1,5 @@
 -- Conversions from and to Latin1: the longest fitting prefix of bytes, and the bits of characters.
-use Rattle.std.proofs.Common.{◌≡◌, ℕ, zero, suc, ◌+◌, ◌-◌, ◌*◌, ◌/◌, ◌%◌, ◌<◌, ◌≤◌, ◌⊎◌, inl, inr, List, [], ◌∷◌, ◌++◌, length, take, drop, take-add, set, slice_index, map, bit_and, bit_or, encode_utf8, encode_utf8_all, IsUtf8, refl, sym, ap, ◌∙◌, arith, subst}
+use Rattle.std.proofs.Common.{◌≡◌, ℕ, zero, suc, ◌+◌, ◌-◌, ◌*◌, ◌/◌, ◌%◌, ◌<◌, ◌≤◌, ◌⊎◌, inl, inr, List, [], ◌∷◌, ◌++◌, length, take, drop, take-add, append_assoc, set, slice_index, map, bit_and, bit_or, encode_utf8, encode_utf8_all, IsUtf8, refl, sym, ap, ◌∙◌, arith, subst}
 use Rattle.std.specs.List.{flat_map}
 use Rattle.std.specs.Str.{chars, IsAscii}
 use Rattle.std.proofs.str.Laws.{two}
@@ -9,6 +9,7 @@ use Rattle.std.proofs.lemmas.List.{append-nil, length-append, length-map, length
 use Rattle.std.proofs.lemmas.Str.{encodes-append, encode_ascii, encodes-IsAscii, chars-IsAscii, chars-append, IsUtf8-from_ascii}
 use Rattle.std.proofs.Math.Seq.{drop-append_seam, take-append_seam}
 use borrow.Rule.Slice.PartMut.{put_mid}
+use Rattle.encoding_kernels.proofs.Latin1ToUtf8Lemmas.{twice}
 use Rattle.encoding_definitions.proofs.EncodingLemmas.{flat_map-encode_utf8}
 use Rattle.encoding_definitions.specs.Prefixes.{IsLongestFittingPrefix, WritesPrefix}
 use Rattle.encoding_definitions.specs.Latin1.{IsLatin1, IsUtf8Latin1}
@@ -71,15 +72,22 @@ latin1_fits_all xs i room l m h =
     let fits = IsLongestFittingPrefix-all (λ (x : ℕ). x ∷ []) encode_utf8 xs room (rw (flat_map-encode_utf8 xs) (rw all at h)) in
     rw (all, n) (rw (singles xs, flat_map-encode_utf8 xs) at fits)
 
-length_two : (c : ℕ) → c < 256 → length (encode_utf8 c) ≤ 2
-length_two c h = elim (cases_lt c 128) [
-  | inl p ↦ rw (encode_ascii c p) (omega arith)
-  | inr p ↦ rw (two c p (omega arith)) (omega arith)
-]
+-- all of them are written
+pub latin1_fits_written : (old new xs : List ℕ) (n : ℕ) → WritesPrefix old new n (encode_utf8_all xs)
+    → IsLongestFittingPrefix (λ b. b ∷ []) encode_utf8 xs (length old) (length xs) (encode_utf8_all (take (length xs) xs))
+latin1_fits_written old new xs n w =
+    let all : take (length xs) xs ≡ xs = take_all (length xs) xs (omega arith) in
+    latin1_fits_all xs (length xs) (length old) (omega arith) (omega arith) (omega (arith, w.count, w.fits, ap (λ ys. length (encode_utf8_all ys)) all))
 
-twice : (xs : List ℕ) → ((i : ℕ) → slice_index xs i < 256) → length (encode_utf8_all xs) ≤ 2 * length xs
-twice [] h = omega arith
-twice (x ∷ xs) h = omega (arith, length-append (encode_utf8 x) (encode_utf8_all xs), length_two x (h 0), twice xs (λ i. h (suc i)))
+-- the UTF-8 of the first bytes of a block begins with that of these bytes
+pub least_spelled : (xs block rest text : List ℕ) (n count : ℕ) → take n block ≡ xs → count ≡ length (encode_utf8_all (take n block))
+    → text ≡ encode_utf8_all block ++ rest → take count text ≡ encode_utf8_all xs
+least_spelled xs block rest text n count is counted had =
+    let early = encode_utf8_all (take n block) in
+    let late = encode_utf8_all (drop n block) in
+    let whole : encode_utf8_all block ≡ early ++ late = ap encode_utf8_all (sym (take-append-drop n block)) ∙ encodes-append (take n block) (drop n block) in
+    let split : text ≡ early ++ (late ++ rest) = had ∙ ap (λ ys. ys ++ rest) whole ∙ append_assoc early late rest in
+    ap (take count) split ∙ take_at early (late ++ rest) count (sym counted) ∙ ap encode_utf8_all is
 
 -- ---- one more byte as a character
 pub latin1_more : (xs : List ℕ) (i : ℕ) → i < length xs → encode_utf8_all (take (i + 1) xs) ≡ encode_utf8_all (take i xs) ++ encode_utf8 (slice_index xs i)

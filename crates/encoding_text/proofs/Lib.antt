@@ -14,8 +14,10 @@ pub mod BorrowedLemmas
 pub mod CallLemmas
 pub mod ConvertingLemmas
 pub mod DecodeLemmas
+pub mod EncoderCountLemmas
 pub mod EncoderLemmas
 pub mod EncoderCallLemmas
+pub mod FirstLemmas
 pub mod Latin1TailLemmas
 pub mod OneResultLemmas
 pub mod WholePrefixesLemmas

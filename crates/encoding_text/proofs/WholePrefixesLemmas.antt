@@ -45,6 +45,15 @@ ascii_stops xs n prefix l = elim (cases_lt (slice_index xs n) 0x80) [
   | inr p ↦ p
 ]
 
+-- so the rest begins with another unit
+pub rest_stops : (xs : List ℕ) (n : ℕ) → IsLongestPrefix IsAscii xs n → n < length xs
+    → (0 < length (take (length xs - n) (drop n xs))) × (0x80 ≤ slice_index (take (length xs - n) (drop n xs)) 0)
+rest_stops xs n prefix l =
+    let first : n + 0 ≡ n = omega arith in (
+      omega (arith, l, ap length (take_rest xs n), length-drop n xs),
+      omega (arith, ascii_stops xs n prefix l, ap (λ ys. slice_index ys 0) (take_rest xs n), get_or-drop n xs 0 0, ap (slice_index xs) first),
+    )
+
 -- the ASCII prefix of a list that isn't ASCII ends before it does
 pub ascii_ends : (xs : List ℕ) (n : ℕ) → IsLongestPrefix IsAscii xs n → ¬ (IsAscii xs) → n < length xs
 ascii_ends xs n prefix other = elim (cases_lt n (length xs)) [

@@ -2,6 +2,7 @@ pub mod Decoding
 pub mod Replacing
 pub mod OneResult
 pub mod Encoding
+pub mod Counted
 pub mod Borrowed
 pub mod Classes
 pub mod Steps

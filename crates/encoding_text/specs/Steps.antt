@@ -6,14 +6,24 @@ use Rattle.std.specs.Str.{all_scalars}
 use Rattle.std.specs.List.{flat_map}
 use Rattle.encoding_definitions.specs.Prefixes.{WritesPrefix}
 use Rattle.encoding_definitions.specs.Converting.{FittingBegins}
+use Rattle.encoding_definitions.specs.Parts.{BeginsWithNoCharacter}
 use Rattle.encoding_definitions.specs.Sequence.{IsIncomplete, IsPending, IsSequence, IsSecond, IsContinuation}
 use Rattle.encoding_text.specs.Decoding.{IsMalformed}
 use Rattle.encoding_text.specs.declared.decoder.DecoderResult.{DecoderResult}
 use Rattle.encoding_text.specs.declared.decoder.DecoderResult.TheVariants.{InputEmpty, OutputFull, Malformed}
+use Rattle.encoding_text.specs.declared.utf_8.first.First.{First}
+use Rattle.encoding_text.specs.declared.utf_8.first.First.TheVariants as first
 use Rattle.encoding_text.specs.declared.decoder.pending.Pushed.{Pushed}
 use Rattle.encoding_text.specs.declared.decoder.pending.Pushed.TheVariants as push
 use Rattle.encoding_text.specs.declared.decoder.pending.Resumed.{Resumed}
 use Rattle.encoding_text.specs.declared.decoder.pending.Resumed.TheVariants as resume
+
+-- what the bytes begin with: a character, or none and then a malformed sequence or one that is incomplete at their end
+abbrev pub IsFirst : List ℕ → First → Type 0
+IsFirst bs first.Ascii = (1 ≤ length bs) × IsSequence (take 1 bs)
+IsFirst bs (first.Character n) = (1 < n) × (n ≤ length bs) × IsSequence (take n bs)
+IsFirst bs (first.Malformed n) = (n ≤ 3) × (n ≤ length bs) × BeginsWithNoCharacter bs × ((last : Bool) → IsMalformed (take n bs) (drop n bs) last)
+IsFirst bs first.Incomplete = BeginsWithNoCharacter bs × IsPending bs
 
 -- whole characters are read and written
 pub record ConvertsSome {A : Type 0} (encode : ℕ → List A) (src : List ℕ) (old new : List A) (read written : ℕ) : Type 0 where

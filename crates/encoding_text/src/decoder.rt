@@ -7,9 +7,13 @@ ghost use Rattle.std.specs.Char.Escape.{encode_utf16};
 ghost use Rattle.encoding_definitions.specs.Sequence.{IsPending, IsIncomplete};
 ghost use Rattle.encoding_text.specs.Decoding.{DecodeStepInto, BorrowedDecodeStep};
 
-use crate::utf_8::{CodeUnit, valid_up_to};
+use crate::ascii::prefixes::is_short;
+use crate::utf_8::first::First;
+use crate::utf_8::{CodeUnit, valid_beyond_ascii};
+use encoding_kernels::lengths::SHORT;
 use encoding_kernels::scalar::decode_utf8_scalar;
-use pending::{Pending, Resumed, is_malformed_byte};
+use encoding_kernels::simd::width::ASCII_END;
+use pending::{Pending, Resumed};
 use std::marker::Model;
 
 mod pending;
@@ -309,18 +313,23 @@ fn borrow_prefix<'a>(pending: &mut Pending, src: &'a [u8], last: bool) -> (Piece
     if src.is_empty() {
         return (Piece::InputEmpty, 0);
     }
-    // a malformed sequence often comes next, and two bytes show most of them
-    if is_malformed_byte(src) {
-        return (Piece::Malformed(1), 1);
+    if src[0] < ASCII_END {
+        if src.len() <= SHORT && is_short(src) {
+            let text = unsafe { std::str::from_utf8_unchecked(src) };
+            return (Piece::Text(text), src.len());
+        }
+    } else if let Some(First::Malformed(length)) = First::of_two(src) {
+        // a malformed sequence often comes next, and two bytes show most of them
+        return (Piece::Malformed(length as u8), length);
     }
-    let length = valid_up_to(src);
+    let length = valid_beyond_ascii::<true>(src);
     if length > 0 {
         return (
             Piece::Text(unsafe { std::str::from_utf8_unchecked(&src[..length]) }),
             length,
         );
     }
-    let (end, read) = pending.end_in_incomplete(src, last);
+    let (end, read) = pending.end_after_two(src, last);
     (piece_at_end(end), read)
 }
 

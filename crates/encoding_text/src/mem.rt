@@ -4,6 +4,7 @@ mod bidi;
 mod borrowed;
 mod checks;
 mod copies;
+mod counted;
 mod latin1;
 mod lengths;
 mod replacing;
@@ -23,6 +24,9 @@ pub use checks::{
     utf8_latin1_up_to,
 };
 pub use copies::{copy_ascii_to_ascii, copy_ascii_to_basic_latin, copy_basic_latin_to_ascii};
+pub use counted::{
+    convert_utf16_to_str_partial_with_count, convert_utf16_to_utf8_partial_with_count,
+};
 pub use latin1::{
     convert_latin1_to_utf8, convert_latin1_to_utf8_partial, convert_latin1_to_utf16,
     convert_utf8_to_latin1, convert_utf8_to_latin1_lossy, convert_utf16_to_latin1_lossy,

@@ -3,12 +3,13 @@
 
 ghost use Rattle.std.specs.Prelude.{◌≡◌, ℕ, ◌+◌, ◌*◌, ◌<◌, ◌≤◌, ◌++◌, nat_le, length, map, take, drop, slice_index, encode_utf8_all};
 ghost use Rattle.std.specs.Simd.Lanes.{mask_l};
+ghost use Rattle.encoding_definitions.specs.Prefixes.{WritesPrefix};
 ghost use Rattle.encoding_kernels.specs.KeptBytes.{EncodesTo};
 ghost use Rattle.encoding_kernels.specs.Utf8Output.{Spills};
 
 use crate::simd::compress::{keep_pairs, store_two, write_both};
-use crate::simd::width::STRIDE;
-use crate::utf8_to_utf16::code_units::join_bytes;
+use crate::simd::copy::{first_and_last_eight, join_bytes};
+use crate::simd::width::{HALF_STRIDE, STRIDE};
 use std::simd::prelude::*;
 
 /// Returns two bytes for each of sixteen bytes of Latin1, by eight: its UTF-8. A byte that is ASCII has an arbitrary
@@ -44,8 +45,9 @@ fn mask_of_others(block: u8x16) -> usize
 fn encode_latin1(block: u8x16) -> (u8x16, usize, u8x16, usize)
     ensures lane_count { (length result.0 ≡ 16) × (length result.2 ≡ 16) }
     ensures first_length { (8 ≤ result.1) × (result.1 ≤ 16) }
-    ensures second { (8 ≤ result.3) × (result.3 ≤ 16) }
-    ensures spelled { take result.1 result.0 ++ take result.3 result.2 ≡ encode_utf8_all block }
+    ensures second_length { (8 ≤ result.3) × (result.3 ≤ 16) }
+    ensures first_half { take result.1 result.0 ≡ encode_utf8_all (take 8 block) }
+    ensures second_half { take result.3 result.2 ≡ encode_utf8_all (drop 8 block) }
 {
     let others = mask_of_others(block);
     let (low, high) = both_bytes(block);
@@ -66,6 +68,24 @@ pub fn write_latin1(block: u8x16, dst: &mut [u8], at: usize) -> usize
     let (first, count, second, more) = encode_latin1(block);
     write_both(dst, at, first, count, second, more);
     count + more
+}
+
+/// Writes the UTF-8 of eight to sixteen bytes of Latin1, and returns its length. The rest of `dst` is unchanged.
+///
+/// One vector has the first eight bytes and the last eight, which may overlap. The UTF-8 of the last ones is stored after that
+/// of the bytes before them. Out of line, so that a longer text needs no more registers than it uses.
+#[inline(never)]
+pub fn write_few_latin1(src: &[u8], dst: &mut [u8]) -> usize
+    requires src_length { (8 ≤ length src.now) × (length src.now ≤ 16) }
+    requires dst_length { 2 * length src.now ≤ length dst.old }
+    ensures written { WritesPrefix dst.old dst.new result (encode_utf8_all src.now) }
+{
+    let last = src.len() - HALF_STRIDE;
+    let block = first_and_last_eight(src);
+    let before = utf8_length_of_first(block, last);
+    let (first, _, second, more) = encode_latin1(block);
+    write_both(dst, 0, first, before, second, more);
+    before + more
 }
 
 /// Stores the UTF-8 of sixteen bytes of Latin1, and returns its length. Up to sixteen bytes after it may change.
@@ -107,11 +127,11 @@ pub fn write_latin1_block(src: &[u8], from: usize, dst: &mut [u8], at: usize) ->
 }
 
 /// Returns the length of the UTF-8 of the first `count` of sixteen bytes of Latin1.
-#[tactic(auto, using(crate::proofs::Latin1ToUtf8Lemmas::latin_first_long, crate::proofs::CodeUnitLemmas::bytes_below))]
 #[inline(always)]
 pub fn utf8_length_of_first(block: u8x16, count: usize) -> usize
     requires { count ≤ 16 }
-    ensures { result ≡ length (encode_utf8_all (take count block)) }
+    ensures out_length { result ≡ length (encode_utf8_all (take count block)) }
+    ensures length_bound { result ≤ 2 * count }
 {
     let others = mask_of_others(block) & ((1 << count) - 1);
     count + others.count_ones() as usize

@@ -74,8 +74,8 @@ pub(crate) fn keep_pairs(pairs: u8x16, mask: usize) -> (u8x16, usize)
     )
 }
 
-/// Writes the first `count` bytes of `first`, followed by the first `more` of `second`. Stores 32 bytes, the others as
-/// `dst` has them.
+/// Writes the first `count` bytes of `first`, followed by the first `more` of `second`. Stores sixteen bytes at
+/// `at` and then sixteen after the first ones, the others as `dst` has them.
 #[inline(always)]
 pub(crate) fn write_both(
     dst: &mut [u8],
@@ -85,7 +85,7 @@ pub(crate) fn write_both(
     second: u8x16,
     more: usize,
 )
-    requires dst_length { at + 32 ≤ length dst.old }
+    requires dst_length { at + (16 + count) ≤ length dst.old }
     requires first_lanes { (count ≤ 16) × (length first ≡ 16) }
     requires second { (more ≤ 16) × (length second ≡ 16) }
     ensures { dst.new ≡ take at dst.old ++ ((take count first ++ take more second) ++ drop

@@ -11,7 +11,7 @@ use std::simd::Simd;
 use std::simd::prelude::*;
 
 /// A test of each index below a count, N at a time.
-pub(crate) trait LanePredicate<const N: usize> {
+pub trait LanePredicate<const N: usize> {
     ghost count: { Self → ℕ };
 
     ghost passes: { Self → ℕ → Type 0 };
@@ -36,7 +36,7 @@ fn all_of_four<const N: usize, T: LanePredicate<N>>(test: &T, at: usize) -> bool
 
 /// Returns whether each of the W indices from `at` on passes, by one test of one or four vectors.
 #[inline(always)]
-pub(crate) fn all<const N: usize, const W: usize, T: LanePredicate<N>>(test: &T, at: usize) -> bool
+pub fn all<const N: usize, const W: usize, T: LanePredicate<N>>(test: &T, at: usize) -> bool
     requires within { (at + W ≤ T.count test.now) × (at + W < 18446744073709551616)
         × (0 < N) × (N ≤ 64) }
     requires vectors { (W ≡ N) ⊎ (W ≡ 4 * N) }
@@ -139,9 +139,9 @@ pub(crate) fn find<const N: usize, T: LanePredicate<N>>(test: &T, from: usize, e
 
 /// Bytes that are below a bound.
 #[derive(Drop)]
-pub(crate) struct BytesBelow<'a> {
-    pub(crate) bytes: &'a [u8],
-    pub(crate) bound: u8,
+pub struct BytesBelow<'a> {
+    pub bytes: &'a [u8],
+    pub bound: u8,
 }
 
 impl<'a, const N: usize> LanePredicate<N> for BytesBelow<'a> {
@@ -159,9 +159,9 @@ impl<'a, const N: usize> LanePredicate<N> for BytesBelow<'a> {
 
 /// UTF-16 code units that are below a bound.
 #[derive(Drop)]
-pub(crate) struct UnitsBelow<'a> {
-    pub(crate) units: &'a [u16],
-    pub(crate) bound: u16,
+pub struct UnitsBelow<'a> {
+    pub units: &'a [u16],
+    pub bound: u16,
 }
 
 impl<'a, const N: usize> LanePredicate<N> for UnitsBelow<'a> {
@@ -311,6 +311,15 @@ pub(crate) fn is_zero(lanes: u8x32) -> bool
     ensures { IsTrue result → IsZeroTo lanes 32 }
 {
     lanes.simd_ne(u8x32::splat(0)).to_bitmask() == 0
+}
+
+/// Returns whether each lane is zero, by words of 64 bits. ARM has no instruction for the mask that `is_zero` takes. x86-64 has,
+/// and often needs the mask of each vector anyway.
+#[inline(always)]
+pub(crate) fn is_zero_by_words(lanes: u8x32) -> bool
+    ensures { IsTrue result → IsZeroTo lanes 32 }
+{
+    u64x4::from_le_bytes(lanes).reduce_or() == 0
 }
 
 /// Returns how many lanes precede the first that isn't zero.

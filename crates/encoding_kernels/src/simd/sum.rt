@@ -83,16 +83,6 @@ fn sum_of_vectors<const N: usize, T: Terms<N>>(terms: &T, at: usize, stop: usize
     (sum_of_lanes(sums), place)
 }
 
-/// Returns the N bytes from `at` on.
-#[tactic(auto, using(crate::proofs::VectorLemmas::HasLanes_load))]
-#[inline(always)]
-fn load<const N: usize>(bytes: &[u8], at: usize) -> Simd<u8, N>
-    requires { at + N ≤ length bytes.now }
-    ensures { HasLanes N result (λ k. slice_index bytes.now (at + k)) }
-{
-    Simd::from_slice(&bytes[at..])
-}
-
 /// Returns the vector with zero in its first `skip` lanes.
 #[inline(always)]
 fn clear_first<const N: usize>(lanes: Simd<u8, N>, skip: usize) -> Simd<u8, N>
@@ -100,7 +90,8 @@ fn clear_first<const N: usize>(lanes: Simd<u8, N>, skip: usize) -> Simd<u8, N>
     requires few { (k : ℕ) → k < N → slice_index lanes k ≤ 2 }
     ensures { HasLanes N result (λ k. if nat_lt k skip then 0 else slice_index lanes.entry k) }
 {
-    lanes.simd_min(load::<N>(&BOUNDS, 64 - skip))
+    let bounds: &[u8] = &BOUNDS;
+    lanes.simd_min(Simd::from_slice(&bounds[64 - skip..]))
 }
 
 /// Returns the sum over the last indices before `end`, from `at` on. They are fewer than N, and the vector that ends

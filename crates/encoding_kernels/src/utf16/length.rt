@@ -5,7 +5,7 @@ ghost use Rattle.encoding_kernels.specs.Scans.{BelowUpTo, HasLanes};
 ghost use Rattle.encoding_kernels.specs.Lengths.{extra_bytes, extra_bytes_by, extra_bytes_few, fewer};
 
 use crate::simd::scan::{UnitsBelow, skip};
-use crate::simd::short::is_short_basic_latin;
+use crate::simd::short::pass_short;
 use crate::simd::sum::{Terms, sum_from};
 use crate::simd::width::{BASIC_LATIN_END, HALF_UNIT_BLOCK, UNIT_BLOCK, UNIT_STRIDE};
 use crate::tuning::UTF16_LENGTH_SPAN;
@@ -109,7 +109,8 @@ impl<'a, const N: usize> Terms<N> for Beyond<'a> {
 fn short_ascii_len(units: &[u16]) -> usize
     ensures { (result ≤ length units.now) × BelowUpTo 0x80 units.now result }
 {
-    if units.len() <= UNIT_BLOCK && is_short_basic_latin(units) {
+    let bound = BASIC_LATIN_END;
+    if units.len() <= UNIT_BLOCK && pass_short::<UNIT_BLOCK, _>(&UnitsBelow { units, bound }) {
         return units.len();
     }
     0

@@ -1,21 +1,14 @@
 //! The UTF-8 of sixteen code units that are no surrogates: each has four bytes, and a table selects and orders those of
-//! its UTF-8. Steps that change nothing else convert what is left, and single characters.
+//! its UTF-8.
 
-ghost use Rattle.std.specs.Prelude.{◌≡◌, ℕ, ◌+◌, ◌*◌, ◌/◌, ◌%◌, ◌<◌, ◌≤◌, List, ◌++◌, length, take, drop, replicate, slice_index, encode_utf8_all, IsTrue};
-ghost use Rattle.std.specs.Simd.Lanes.{mask_l};
+ghost use Rattle.std.specs.Prelude.{◌≡◌, ℕ, ◌+◌, ◌*◌, ◌<◌, ◌≤◌, ◌++◌, length, take, drop, slice_index, encode_utf8_all, IsTrue, ◌/◌, ◌%◌, List, replicate};
 ghost use Rattle.encoding_definitions.specs.Prefixes.{WritesPrefix};
+ghost use Rattle.std.specs.Simd.Lanes.{mask_l};
+ghost use Rattle.encoding_kernels.specs.Utf8Output.{Spills};
 ghost use Rattle.encoding_kernels.specs.KeptBytes.{EncodesBy, length_classes};
-ghost use Rattle.encoding_kernels.specs.Utf8Output.{Spills, ConvertsPrefix, WritesBmp};
-ghost use Rattle.encoding_definitions.specs.FirstScalar.{IsFirstScalar};
-ghost use Rattle.encoding_definitions.specs.Utf16.{IsUtf8OfPrefix};
 
-use crate::scalar::{
-    is_high_surrogate, is_low_surrogate, is_surrogate, pair_scalar, utf16_length, write_scalar,
-};
 use crate::simd::compress::{select_in_halves, store_two, unit_places_by};
-use crate::simd::copy::copy_prefix;
 use crate::simd::scan::run_before;
-use crate::simd::width::STRIDE;
 use std::simd::prelude::*;
 
 /// The index of the lower byte of each of sixteen code units, twice.
@@ -139,6 +132,9 @@ fn length_of_sixteen(units: u16x16) -> usize
     48 - mask_of_classes(units).count_ones() as usize
 }
 
+/// The number of bytes that the blocks of sixteen code units may change after their own.
+pub(super) const SPILL: usize = 16;
+
 /// Stores the UTF-8 of sixteen code units, and returns its length.
 #[inline(always)]
 pub(super) fn store_mixed(units: u16x16, dst: &mut [u8], at: usize) -> usize
@@ -184,102 +180,4 @@ pub(super) fn with_zeros(units: u16x16, first: usize) -> u16x16
     places
         .simd_lt(u16x16::splat(first as u16))
         .select(units, u16x16::splat(0))
-}
-
-/// The scalar value that is written for an unpaired surrogate.
-pub const REPLACEMENT_CHARACTER: u32 = 0xFFFD;
-
-/// The number of bytes that sixteen code units may change, with those that are written back.
-const ROOM: usize = 80;
-
-/// The number of bytes that the blocks of sixteen code units may change after their own.
-pub(super) const SPILL: usize = 16;
-
-/// Returns the scalar value that is written for the first part of the code units from index `at` on.
-#[inline(always)]
-pub fn scalar_at(src: &[u16], at: usize) -> u32
-    requires { at < length src.now }
-    ensures { IsFirstScalar (drop at src.now) result }
-{
-    let unit = src[at];
-    if !is_surrogate(unit) {
-        return u32::from(unit);
-    }
-    if is_high_surrogate(unit) && at + 1 < src.len() {
-        let next = src[at + 1];
-        if is_low_surrogate(next) {
-            return pair_scalar(unit, next);
-        }
-    }
-    REPLACEMENT_CHARACTER
-}
-
-/// Returns the first sixteen code units, followed by zeros if there are fewer.
-#[inline(always)]
-fn first_units(src: &[u16]) -> u16x16
-    ensures { (length result ≡ 16) × (take (length (take 16 src.now)) result ≡ take 16 src.now) }
-{
-    if src.len() >= STRIDE {
-        return u16x16::from_slice(src);
-    }
-    let mut units = [0; STRIDE];
-    units[..src.len()].copy_from_slice(src);
-    u16x16::from_array(units)
-}
-
-/// Converts those of the first sixteen code units that precede a surrogate, if they fit. Near the end of `dst` they are
-/// converted apart from it, so that nothing else is stored there.
-#[tactic(auto, using(crate::proofs::Utf16ToUtf8Lemmas::writes_none))]
-#[inline(always)]
-pub(super) fn convert_first_sixteen(src: &[u16], dst: &mut [u8]) -> (usize, usize)
-    ensures written { WritesBmp src.now dst.old dst.new result.0 result.1 }
-    ensures length_bound { result.0 ≤ result.1 }
-{
-    let units = first_units(src);
-    let first = non_surrogate_prefix(units).min(src.len());
-    let lanes = with_zeros(units, first);
-    if dst.len() >= ROOM {
-        return (first, write_mixed(lanes, STRIDE - first, dst));
-    }
-    let mut bytes = [0; 64];
-    let stored = store_mixed(lanes, &mut bytes, 0);
-    let written = stored - (STRIDE - first);
-    if written > dst.len() {
-        return (0, 0);
-    }
-    copy_prefix(&bytes[..written], dst);
-    (first, written)
-}
-
-/// Converts those of the first sixteen code units that precede a surrogate, or the first character alone.
-#[inline(always)]
-fn convert_some(src: &[u16], dst: &mut [u8]) -> (usize, usize)
-    requires { (0 < length src.now) × (4 ≤ length dst.old) }
-    ensures prefix { IsUtf8OfPrefix src.now result.0 (take result.1 dst.new) }
-    ensures unchanged_after { WritesPrefix dst.old dst.new result.1 (take result.1 dst.new) }
-    ensures within { result.0 ≤ length src.now }
-    ensures progress { (0 < result.0) × (result.0 ≤ result.1) }
-{
-    let (first, written) = convert_first_sixteen(src, dst);
-    if first > 0 {
-        return (first, written);
-    }
-    let scalar = scalar_at(src, 0);
-    (utf16_length(scalar), write_scalar(scalar, dst))
-}
-
-/// Converts the first characters of `src`, until at least sixteen bytes are written.
-pub(super) fn convert_spilled(src: &[u16], dst: &mut [u8]) -> (usize, usize)
-    requires { (16 ≤ length src.now) × (48 ≤ length dst.old) }
-    ensures converted { ConvertsPrefix src.now dst.old dst.new result.0 result.1 }
-    ensures length_bound { 16 ≤ result.1 }
-{
-    let mut read = 0;
-    let mut written = 0;
-    while written < SPILL {
-        let (units, bytes) = convert_some(&src[read..], &mut dst[written..]);
-        read += units;
-        written += bytes;
-    }
-    (read, written)
 }

@@ -5,7 +5,7 @@ ghost use Rattle.encoding_kernels.specs.Scans.{BelowUpTo, HasLanes};
 ghost use Rattle.encoding_kernels.specs.Lengths.{sum_over_suffixes, goes_second, continuations, continuations_by, continuations_few, fewer};
 
 use crate::simd::scan::{BytesBelow, prefix_len_below, skip};
-use crate::simd::short::is_short_ascii;
+use crate::simd::short::pass_short;
 use crate::simd::sum::{Terms, sum_from};
 use crate::simd::width::{ASCII_END, BLOCK, HALF_STRIDE};
 use crate::tuning::UTF8_LENGTH_SPAN;
@@ -164,7 +164,8 @@ fn count_joined_after(bytes: &[u8], ascii: usize) -> usize
 fn ascii_prefix_len(bytes: &[u8]) -> usize
     ensures { (result ≤ length bytes.now) × BelowUpTo 0x80 bytes.now result }
 {
-    if bytes.len() <= BLOCK && is_short_ascii(bytes) {
+    let bound = ASCII_END;
+    if bytes.len() <= BLOCK && pass_short::<BLOCK, _>(&BytesBelow { bytes, bound }) {
         return bytes.len();
     }
     prefix_len_below(bytes, ASCII_END)

@@ -6,7 +6,6 @@ ghost use Rattle.encoding_kernels.specs.Scans.{BelowBetween, BelowUpTo};
 ghost use Rattle.encoding_kernels.specs.Following.{ValidUpTo};
 ghost use Rattle.std.specs.Str.{IsUtf8};
 
-use crate::scalar::is_lead_with_continuation;
 use crate::simd::copy::with_zeros;
 use crate::simd::scan::{BytesBelow, all, is_zero, skip, zeros};
 use crate::simd::width::{ASCII_END, BLOCK, FOUR_BLOCKS, HALF_BLOCK, STRIDE, TWO_BLOCKS};
@@ -243,9 +242,5 @@ pub fn well_formed_blocks(src: &[u8], ascii: usize) -> usize
     requires ascii { (ascii ≤ length src.now) × BelowUpTo ASCII_END src.now ascii }
     ensures { (result ≤ length src.now) × IsUtf8 (take result src.now) }
 {
-    // malformed sequences often cluster, and a block costs more than two bytes
-    if src.len() - ascii < 2 || !is_lead_with_continuation(src[ascii], src[ascii + 1]) {
-        return ascii;
-    }
     back(src, following(src, ascii))
 }

@@ -8,7 +8,7 @@ ghost use Rattle.std.specs.Simd.Lanes.{mask_l};
 ghost use Rattle.encoding_kernels.specs.Scans.{BelowUpTo, HasLanes};
 ghost use Rattle.encoding_kernels.specs.EndingUnits.{ends_after, low_bits, unit_at, units_after, upper_of, compressed_places, byte_places, WritesCompressed};
 
-use crate::simd::copy::{one_before, three_before, two_before};
+use crate::simd::copy::join_bytes;
 use std::simd::prelude::*;
 
 /// Returns whether each byte is below the bound.
@@ -36,24 +36,6 @@ fn upper_bits(two: u8x16, one: u8x16) -> u8x16
 {
     let above = two.saturating_sub(u8x16::splat(0xE0)) << u8x16::splat(4);
     above + ((one >> u8x16::splat(2)) & u8x16::splat(0x0F))
-}
-
-/// Joins a lower and an upper byte for each lane, and returns the first eight and the last eight.
-#[inline(always)]
-pub(crate) fn join_bytes(lower: u8x16, upper: u8x16) -> (u16x8, u16x8)
-    ensures lanes { HasLanes 8 result.0 (λ k. slice_index lower k + 0x100 * slice_index upper k) }
-    ensures last { HasLanes 8 result.1
-        (λ k. slice_index lower (8 + k) + 0x100 * slice_index upper (8 + k)) }
-{
-    let first = lower.shuffle(
-        upper,
-        [0, 16, 1, 17, 2, 18, 3, 19, 4, 20, 5, 21, 6, 22, 7, 23],
-    );
-    let last = lower.shuffle(
-        upper,
-        [8, 24, 9, 25, 10, 26, 11, 27, 12, 28, 13, 29, 14, 30, 15, 31],
-    );
-    (u16x8::from_le_bytes(first), u16x8::from_le_bytes(last))
 }
 
 /// Returns the code unit that ends with each byte, if no character has four bytes, given the bytes one and two before
@@ -167,29 +149,6 @@ pub(super) fn ends_of_stride(src: &[u8], at: usize, one: u8x16) -> usize
     ends.to_bitmask() as usize
 }
 
-/// Returns the code unit that ends with each byte: the first eight, and the last eight.
-#[inline(always)]
-pub(crate) fn code_units(block: u8x16) -> (u16x8, u16x8)
-    ensures { (result.0 ≡ take 8 (units_after 0 0 0 block))
-        × (result.1 ≡ drop 8 (units_after 0 0 0 block)) }
-{
-    let (two, one) = (two_before(block), one_before(block));
-    if is_below(block, 0xF0) {
-        return short_units(two, one, block);
-    }
-    any_units(three_before(block), two, one, block)
-}
-
-/// Returns a bit for each of the first `end` bytes that ends a code unit.
-#[inline(always)]
-pub(crate) fn unit_ends(block: u8x16, end: usize) -> usize
-    requires { end ≤ 16 }
-    ensures { result ≡ mask_l (take end (ends_after 0 block) ++ replicate (16 - end) false) }
-{
-    let ends = block.simd_lt(u8x16::splat(0xC0)) & one_before(block).simd_lt(u8x16::splat(0xE0));
-    ends.to_bitmask() as usize & ((1 << end) - 1)
-}
-
 /// The indices of the lanes of a vector.
 const LANES: [u16; 8] = [0, 1, 2, 3, 4, 5, 6, 7];
 
@@ -238,43 +197,29 @@ fn compress_places(mask: usize) -> u8x16
 
 /// Returns the kept lanes, in order, followed by copies of the first lane.
 #[inline(always)]
-pub(crate) fn compress(lanes: u16x8, mask: usize) -> u16x8
+fn compress(lanes: u16x8, mask: usize) -> u16x8
     requires { mask < 256 }
     ensures { result ≡ map (λ k. slice_index lanes k) (compressed_places mask) }
 {
     u16x8::from_le_bytes(lanes.to_le_bytes().swizzle_dyn(compress_places(mask)))
 }
 
-/// Returns the mask of sixteen lanes without the bits of the first `skip`.
-#[tactic(auto, using(crate::proofs::CompressLemmas::mask_suffix))]
+/// Returns the mask of sixteen lanes without the bits of the first `from` and of those from `to` on.
+#[tactic(auto, using(crate::proofs::CompressLemmas::mask_between))]
 #[inline(always)]
-pub(super) fn kept_from(mask: usize, skip: usize) -> usize
-    requires { (mask < 2 ^ 16) × (skip < 16) }
+pub(super) fn kept_between(mask: usize, from: usize, to: usize) -> usize
+    requires { (mask < 2 ^ 16) × (from ≤ to) × (to ≤ 16) }
     ensures { (marks : List Bool) → length marks ≡ 16 → mask ≡ mask_l marks
-        → result ≡ mask_l (replicate skip false ++ drop skip marks) }
+        → result ≡ mask_l (replicate from false
+        ++ drop from (take to marks ++ replicate (16 - to) false)) }
 {
-    mask >> skip << skip
+    (mask & ((1 << to) - 1)) >> from << from
 }
 
-/// Writes the units whose bit is set, in order, and returns their number. Up to eight units after them may change.
+/// Writes the units whose bit is set, in order, and returns their number. Up to SPARE units after them may change: eight, or
+/// none.
 #[inline(always)]
-pub(super) fn write_compressed(first: u16x8, last: u16x8, kept: usize, dst: &mut [u16]) -> usize
-    requires { (kept < 2 ^ 16) × (16 ≤ length dst.old) }
-    ensures { (marks : List Bool) → length marks ≡ 16 → kept ≡ mask_l marks
-        → WritesCompressed marks (first ++ last) dst.old dst.new result
-        (result + 8 - count_ones (kept / 2 ^ 8)) }
-{
-    let first_kept = kept & 0xFF;
-    let last_kept = kept >> 8;
-    compress(first, first_kept).copy_to_slice(dst);
-    let count = first_kept.count_ones() as usize;
-    compress(last, last_kept).copy_to_slice(&mut dst[count..]);
-    count + last_kept.count_ones() as usize
-}
-
-/// Writes the units whose bit is set, in order, and no others. Returns their number.
-#[inline(always)]
-pub(super) fn write_compressed_exact(
+pub(super) fn write_kept<const SPARE: usize>(
     first: u16x8,
     last: u16x8,
     kept: usize,
@@ -282,12 +227,17 @@ pub(super) fn write_compressed_exact(
 ) -> usize
     requires { (kept < 2 ^ 16) × (16 ≤ length dst.old) }
     ensures { (marks : List Bool) → length marks ≡ 16 → kept ≡ mask_l marks
-        → WritesCompressed marks (first ++ last) dst.old dst.new result result }
+        → WritesCompressed marks (first ++ last) dst.old dst.new result (result + SPARE) }
 {
     let first_kept = kept & 0xFF;
     let last_kept = kept >> 8;
     let count = first_kept.count_ones() as usize;
     let more = last_kept.count_ones() as usize;
+    if SPARE >= 8 {
+        compress(first, first_kept).copy_to_slice(dst);
+        compress(last, last_kept).copy_to_slice(&mut dst[count..]);
+        return count + more;
+    }
     let following = u16x8::from_slice(&dst[count..]);
     compress(first, first_kept).copy_to_slice(dst);
     let is_kept = u16x8::from_array(LANES).simd_lt(u16x8::splat(more as u16));

@@ -1,28 +1,20 @@
-//! UTF-16 of many characters at once: of up to eight of three bytes, and of those that end in 64 bytes.
-//!
-//! The code units of 64 bytes are computed by strides at fixed indices, so no stride waits for the end of a character in
-//! the one before it. Only the index at which the next 64 bytes begin depends on the text.
+//! UTF-16 of long texts: of up to eight characters of three bytes at once, and of groups of 64 bytes.
 
-ghost use Rattle.std.specs.Prelude.{ℕ, ◌≡◌, ◌+◌, ◌*◌, ◌<◌, ◌≤◌, ◌∷◌, IsTrue, IsFalse, length, take, drop, slice_index};
-ghost use Rattle.std.specs.Str.{IsUtf8, IsCharBoundary};
+ghost use Rattle.std.specs.Prelude.{ℕ, ◌≡◌, ◌+◌, ◌*◌, ◌<◌, ◌≤◌, IsTrue, IsFalse, length, slice_index};
+ghost use Rattle.std.specs.Str.{IsUtf8};
 ghost use Rattle.encoding_kernels.specs.Scans.{BelowBetween, BelowUpTo, HasLanes};
-ghost use Rattle.encoding_kernels.specs.EndingUnits.{WritesUtf16, WritesCompressed, StoresUnits, BoundsStrides, units_after, ends_after, BeginsThree, NoUnitEnds, triple_unit};
+ghost use Rattle.encoding_kernels.specs.EndingUnits.{BeginsThree, BoundsStrides, WritesUtf16, triple_unit, units_in};
 
-use crate::scalar::is_continuation;
-use crate::simd::copy::{one_before, three_before, two_before};
-use crate::simd::scan::run_before;
-use crate::simd::width::{BLOCK, FOUR, STRIDE};
-use crate::utf8_to_utf16::code_units::{
-    ends_of_stride, is_below, units_of_stride, write_compressed,
-};
+use crate::simd::scan::{are_bytes_below, run_before};
+use crate::simd::width::{ASCII_END, BLOCK, FOUR, HALF_BLOCK, STRIDE};
+use crate::utf8_to_utf16::block::{FOUR_BYTES, whole_end};
+use crate::utf8_to_utf16::code_units::is_below;
+use crate::utf8_to_utf16::strides::{write_block, write_stride};
 use std::simd::prelude::*;
 
 /// The least length of a text whose first 64 bytes may be converted at once: the units that these store after their own
 /// are overwritten by those of the other bytes.
 pub(super) const GROUP_OF_TEXT: usize = BLOCK + 24;
-
-/// The least byte that begins four.
-pub(super) const FOUR_BYTES: u8 = 0xF0;
 
 /// The length of eight characters of three bytes.
 pub(super) const TRIPLES: usize = 24;
@@ -85,20 +77,21 @@ fn triple_units(src: &[u8]) -> u16x8
     leads * u16x8::splat(0x1000) + ((second & six) * u16x8::splat(64) + (third & six))
 }
 
-/// Writes the UTF-16 of the first eight characters, of three bytes each.
+/// Writes the UTF-16 of the first `count` characters, of three bytes each. The first eight code units may have changed.
 #[inline(always)]
-pub(super) fn write_triples(src: &[u8], dst: &mut [u16])
+pub(super) fn write_triples(src: &[u8], count: usize, dst: &mut [u16])
     requires dst_length { (24 ≤ length src.now) × (8 ≤ length dst.old) }
     requires text { IsUtf8 src.now }
-    requires triples { (k : ℕ) → k < 8 → BeginsThree (slice_index src.now (3 * k)) }
-    ensures { WritesUtf16 src.now dst.old dst.new 24 8 8 }
+    requires triples { (count ≤ 8)
+        × ((k : ℕ) → k < count → BeginsThree (slice_index src.now (3 * k))) }
+    ensures { WritesUtf16 src.now dst.old dst.new (3 * count) count 8 }
 {
     triple_units(src).copy_to_slice(dst);
 }
 
 /// Returns how many of the first eight characters have three bytes, up to the first that hasn't.
 #[inline(always)]
-pub(super) fn leading_triples(src: &[u8]) -> usize
+fn leading_triples(src: &[u8]) -> usize
     requires { 24 ≤ length src.now }
     ensures { (result ≤ 8) × ((k : ℕ) → k < result → BeginsThree (slice_index src.now (3 * k))) }
 {
@@ -116,21 +109,9 @@ pub(super) fn leading_triples(src: &[u8]) -> usize
     end / 3
 }
 
-/// Writes the UTF-16 of the first `count` characters, of three bytes each. The first eight code units may have changed.
-#[inline(always)]
-pub(super) fn write_some_triples(src: &[u8], count: usize, dst: &mut [u16])
-    requires dst_length { (24 ≤ length src.now) × (8 ≤ length dst.old) }
-    requires text { IsUtf8 src.now }
-    requires triples { (count ≤ 8)
-        × ((k : ℕ) → k < count → BeginsThree (slice_index src.now (3 * k))) }
-    ensures { WritesUtf16 src.now dst.old dst.new (3 * count) count 8 }
-{
-    triple_units(src).copy_to_slice(dst);
-}
-
 /// Returns for each lane the greatest of the bytes at it in the last three strides of 64 bytes.
 #[inline(always)]
-pub(super) fn greatest_after_stride(src: &[u8]) -> u8x16
+fn greatest_after_stride(src: &[u8]) -> u8x16
     requires { 64 ≤ length src.now }
     ensures { BoundsStrides src.now result }
 {
@@ -142,7 +123,7 @@ pub(super) fn greatest_after_stride(src: &[u8]) -> u8x16
 
 /// Returns whether one of the first 64 bytes may begin a character of four bytes, given the greatest of the last three strides.
 #[inline(always)]
-pub(super) fn begins_four_bytes(src: &[u8], rest: u8x16) -> bool
+fn begins_four_bytes(src: &[u8], rest: u8x16) -> bool
     requires src_length { 64 ≤ length src.now }
     requires rest { BoundsStrides src.now rest }
     ensures { IsFalse result → BelowUpTo 0xF0 src.now 64 }
@@ -150,90 +131,102 @@ pub(super) fn begins_four_bytes(src: &[u8], rest: u8x16) -> bool
     !is_below(u8x16::from_slice(src).simd_max(rest), FOUR_BYTES)
 }
 
-/// Returns the end of the last whole character in the first 64 bytes, or 0 if it can't be told from the last two: a
-/// character of four bytes ends with the byte after them.
+/// Writes the UTF-16 of the whole characters in the first 64 bytes, if none has more than N bytes. Returns how many bytes it read
+/// and how many code units it wrote. Units that the rest of the text overwrites may have changed too.
 #[inline(always)]
-pub(super) fn group_end(src: &[u8]) -> usize
-    requires { (64 < length src.now) × IsUtf8 src.now }
-    ensures end { (result ≤ 64) × IsCharBoundary src.now result }
-    ensures cut { 0 < result → NoUnitEnds src.now result 64 }
-    ensures uncut { BelowBetween 0x80 src.now 62 64 → 0 < result → result ≡ 64 }
-{
-    let cut = if src[BLOCK - 2] >= 0xE0 {
-        2
-    } else {
-        usize::from(src[BLOCK - 1] >= 0xC0)
-    };
-    let end = BLOCK - cut;
-    if is_continuation(src[end]) {
-        return 0;
-    }
-    end
-}
-
-/// Returns the bytes three, two and one before each of the first sixteen, and zeros before the first.
-#[inline(always)]
-pub(super) fn bytes_before_first(src: &[u8]) -> (u8x16, u8x16, u8x16)
-    requires { 16 ≤ length src.now }
-    ensures three { HasLanes 16 result.0 (λ k. slice_index (0 ∷ 0 ∷ 0 ∷ src.now) (0 + k)) }
-    ensures two { HasLanes 16 result.1 (λ k. slice_index (0 ∷ 0 ∷ src.now) (0 + k)) }
-    ensures one { HasLanes 16 result.2 (λ k. slice_index (0 ∷ src.now) (0 + k)) }
-{
-    let block = u8x16::from_slice(src);
-    (three_before(block), two_before(block), one_before(block))
-}
-
-/// Returns the bytes three, two and one before each of the sixteen from `at` on.
-#[inline(always)]
-pub(super) fn bytes_before(src: &[u8], at: usize) -> (u8x16, u8x16, u8x16)
-    requires { (3 ≤ at) × (at + 16 ≤ length src.now) }
-    ensures three { HasLanes 16 result.0 (λ k. slice_index (0 ∷ 0 ∷ 0 ∷ src.now) (at + k)) }
-    ensures two { HasLanes 16 result.1 (λ k. slice_index (0 ∷ 0 ∷ src.now) (at + k)) }
-    ensures one { HasLanes 16 result.2 (λ k. slice_index (0 ∷ src.now) (at + k)) }
-{
-    let three = u8x16::from_slice(&src[at - 3..]);
-    let two = u8x16::from_slice(&src[at - 2..]);
-    let one = u8x16::from_slice(&src[at - 1..]);
-    (three, two, one)
-}
-
-/// Writes the code units that end with the sixteen bytes from `at` on, if no character has more than N bytes, given the
-/// bytes one, two and three before each. Returns their number. Up to eight units after them may change.
-#[inline(always)]
-fn write_stride<const N: usize>(
-    src: &[u8],
-    at: usize,
-    three: u8x16,
-    two: u8x16,
-    one: u8x16,
-    dst: &mut [u16],
-) -> usize
-    requires within { (at + 16 ≤ length src.now) × (16 ≤ length dst.old) }
-    requires three_before { HasLanes 16 three (λ k. slice_index (0 ∷ 0 ∷ 0 ∷ src.now) (at + k)) }
-    requires two_before { HasLanes 16 two (λ k. slice_index (0 ∷ 0 ∷ src.now) (at + k)) }
-    requires one_before { HasLanes 16 one (λ k. slice_index (0 ∷ src.now) (at + k)) }
-    requires short { N < 4 → BelowUpTo 0xF0 src.now (at + 16) }
-    ensures { WritesCompressed (take 16 (drop at (ends_after 0 src.now)))
-        (take 16 (drop at (units_after 0 0 0 src.now))) dst.old dst.new result (result + 8) }
-{
-    let (first, last) = units_of_stride::<N>(src, at, three, two, one);
-    write_compressed(first, last, ends_of_stride(src, at, one), dst)
-}
-
-/// Writes the code units that end in the first 64 bytes, if no character has more than N bytes, and returns their number.
-/// Up to eight units after them may change.
-#[inline(always)]
-pub(super) fn write_group<const N: usize>(src: &[u8], dst: &mut [u16]) -> usize
-    requires dst_length { (64 ≤ length src.now) × (64 ≤ length dst.old) }
+fn write_group<const N: usize>(src: &[u8], dst: &mut [u16]) -> (usize, usize)
+    requires dst_length { (88 ≤ length src.now) × (length src.now ≤ length dst.old) }
+    requires text { IsUtf8 src.now }
     requires short { N < 4 → BelowUpTo 0xF0 src.now 64 }
-    ensures { StoresUnits src.now dst.old dst.new 64 result (result + 8) }
+    ensures progress { 0 < result.0 }
+    ensures written { WritesUtf16 src.now dst.old dst.new result.0 result.1 (units_in src.now) }
 {
-    let (three, two, one) = bytes_before_first(src);
-    let mut written = write_stride::<N>(src, 0, three, two, one, dst);
-    for stride in 1..FOUR {
+    let end = whole_end::<BLOCK, N>(src);
+    let mut written = write_stride::<N, 0, 8>(src, 0, 0, STRIDE, dst);
+    for stride in 1..FOUR - 1 {
         let at = STRIDE * stride;
-        let (three, two, one) = bytes_before(src, at);
-        written += write_stride::<N>(src, at, three, two, one, &mut dst[written..]);
+        written += write_stride::<N, 3, 8>(src, at, 0, STRIDE, &mut dst[written..]);
     }
-    written
+    let last = BLOCK - STRIDE;
+    // if no character has four bytes, no unit ends in the one that is cut
+    let to = if N < 4 { STRIDE } else { end - last };
+    (
+        end,
+        written + write_stride::<N, 3, 8>(src, last, 0, to, &mut dst[written..]),
+    )
+}
+
+/// Writes the UTF-16 of the first characters of a text as `write_group` does, or of fewer. If characters of three bytes come
+/// first, one of four begins in the block after them, and the last 32 bytes have no more of four, only those and the block are
+/// written. Out of line, since few texts have characters of four bytes.
+#[inline(never)]
+fn write_with_pairs(src: &[u8], dst: &mut [u16]) -> (usize, usize)
+    requires dst_length { (88 ≤ length src.now) × (length src.now ≤ length dst.old) }
+    requires text { IsUtf8 src.now }
+    ensures progress { 0 < result.0 }
+    ensures written { WritesUtf16 src.now dst.old dst.new result.0 result.1 (units_in src.now) }
+{
+    if src[0] & 0xF0 == 0xE0 && are_bytes_below::<HALF_BLOCK>(src, HALF_BLOCK, FOUR_BYTES) {
+        let count = leading_triples(src);
+        let read = 3 * count;
+        if !are_bytes_below::<STRIDE>(src, read, FOUR_BYTES) {
+            write_triples(src, count, dst);
+            let (bytes, units) = write_block(&src[read..], &mut dst[count..]);
+            return (read + bytes, count + units);
+        }
+    }
+    write_group::<4>(src, dst)
+}
+
+/// Writes the UTF-16 of the first characters of a text: of eight of three bytes each, or of those in the first 64 bytes, or of
+/// fewer: of the first sixteen if the last 48 are ASCII. Returns how many bytes it read, how many code units it wrote, and
+/// whether 48 bytes of ASCII follow. Units that the rest of the text overwrites may have changed too.
+#[inline(always)]
+fn convert_group(src: &[u8], dst: &mut [u16]) -> (usize, usize, bool)
+    requires dst_length { (88 ≤ length src.now) × (length src.now ≤ length dst.old) }
+    requires text { IsUtf8 src.now }
+    ensures progress { 0 < result.0 }
+    ensures written { WritesUtf16 src.now dst.old dst.new result.0 result.1 (units_in src.now) }
+{
+    if begins_triples(src) {
+        write_triples(src, UNITS, dst);
+        return (TRIPLES, UNITS, false);
+    }
+    let rest = greatest_after_stride(src);
+    if begins_four_bytes(src, rest) {
+        let (bytes, units) = write_with_pairs(src, dst);
+        return (bytes, units, false);
+    }
+    if is_below(rest, ASCII_END) {
+        return (
+            STRIDE,
+            write_stride::<3, 0, 8>(src, 0, 0, STRIDE, dst),
+            true,
+        );
+    }
+    let (bytes, units) = write_group::<3>(src, dst);
+    (bytes, units, false)
+}
+
+/// Writes the UTF-16 of a text by groups of 64 bytes, until 48 bytes of ASCII follow or at most 87 bytes are left. Returns
+/// how many bytes it read and how many code units it wrote. Units that the rest of the text overwrites may have changed too.
+/// Out of line, since it needs many registers.
+#[inline(never)]
+pub(super) fn convert_groups(src: &[u8], dst: &mut [u16]) -> (usize, usize)
+    requires dst_length { (88 ≤ length src.now) × (length src.now ≤ length dst.old) }
+    requires text { IsUtf8 src.now }
+    ensures progress { 0 < result.0 }
+    ensures written { WritesUtf16 src.now dst.old dst.new result.0 result.1 (units_in src.now) }
+{
+    let mut read = 0;
+    let mut written = 0;
+    while src.len() - read >= GROUP_OF_TEXT {
+        let (bytes, units, before_ascii) = convert_group(&src[read..], &mut dst[written..]);
+        read += bytes;
+        written += units;
+        if before_ascii {
+            return (read, written);
+        }
+    }
+    (read, written)
 }

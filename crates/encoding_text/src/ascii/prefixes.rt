@@ -8,15 +8,19 @@ ghost use Rattle.encoding_kernels.specs.EndingUnits.{WritesUtf16, units_in};
 ghost use Rattle.encoding_kernels.specs.Scans.{BelowUpTo, IsRunBelow};
 
 use super::{ascii_to_ascii, ascii_to_basic_latin, ascii_valid_up_to};
+use encoding_kernels::lengths::{BLOCK_OF_TEXT, STRIDE_OF_TEXT};
 use encoding_kernels::simd::copy::{
     copy, copy_run, copy_run_of_block, unpack, unpack_block, unpack_run,
 };
-use encoding_kernels::simd::scan::{are_bytes_below, are_four_blocks_below, run_len_below};
-use encoding_kernels::simd::short::{
-    copy_short_ascii, is_short_ascii, pack_short_ascii, unpack_short_ascii,
+use encoding_kernels::simd::scan::{
+    BytesBelow, are_bytes_below, are_four_blocks_below, run_len_below,
+};
+use encoding_kernels::simd::short::pass_short;
+pub(crate) use encoding_kernels::simd::short::{
+    BytesToBytes, BytesToUnits, UnitsToBytes, write_short,
 };
 use encoding_kernels::simd::width::{
-    ASCII_END, BLOCK, FOUR_BLOCKS, HALF_BLOCK, STRIDE, TWO_BLOCKS, UNIT_BLOCK,
+    ASCII_END, BLOCK, FOUR_BLOCKS, HALF_BLOCK, STRIDE, TWO_BLOCKS,
 };
 
 /// Returns whether at most 128 bytes are ASCII.
@@ -25,7 +29,8 @@ pub(crate) fn is_short(bytes: &[u8]) -> bool
     requires { length bytes.now ≤ 128 }
     ensures { IsTrue result ↔ IsAscii bytes.now }
 {
-    is_short_ascii(bytes)
+    let bound = ASCII_END;
+    pass_short::<TWO_BLOCKS, _>(&BytesBelow { bytes, bound })
 }
 
 /// Returns how many bytes of the first block precede the first that isn't ASCII.
@@ -35,57 +40,6 @@ pub(crate) fn first_block_prefix(bytes: &[u8]) -> usize
     ensures { IsRunBelow ASCII_END bytes.now 0 64 result }
 {
     run_len_below::<BLOCK>(bytes, 0, ASCII_END)
-}
-
-/// Returns the length of the longest ASCII prefix, as `ascii_valid_up_to` does, if the first `known` bytes are ASCII and
-/// at most a block follows. The last block may overlap them, so no byte is left to a loop.
-#[inline(always)]
-fn ascii_valid_up_to_by_last(bytes: &[u8], known: usize) -> usize
-    requires block { 64 ≤ length bytes.now }
-    requires known { (known ≤ length bytes.now) × (length bytes.now ≤ known + 64) }
-    requires ascii { IsAscii (take known bytes.now) }
-    ensures { IsLongestPrefix IsAscii bytes.now result }
-{
-    if known == bytes.len() {
-        return known;
-    }
-    let last = bytes.len() - BLOCK;
-    last + run_len_below::<BLOCK>(bytes, last, ASCII_END)
-}
-
-/// Returns the length of the longest ASCII prefix, as `ascii_valid_up_to` does, if the first block is ASCII.
-#[inline(always)]
-pub(crate) fn ascii_valid_up_to_after_block(bytes: &[u8]) -> usize
-    requires block { 64 ≤ length bytes.now }
-    requires ascii { BelowUpTo ASCII_END bytes.now 64 }
-    ensures { IsLongestPrefix IsAscii bytes.now result }
-{
-    if bytes.len() <= TWO_BLOCKS {
-        return ascii_valid_up_to_by_last(bytes, BLOCK);
-    }
-    let whole = bytes.len() / BLOCK * BLOCK;
-    let prefix = ascii_valid_up_to(&bytes[..whole]);
-    if prefix < whole {
-        return prefix;
-    }
-    ascii_valid_up_to_by_last(bytes, whole)
-}
-
-/// Returns the length of the longest ASCII prefix, as `ascii_valid_up_to` does. One mask finds its end in the first
-/// block, without a branch that depends on the text: between other characters most prefixes end there.
-#[tactic(auto, using(encoding_kernels::proofs::ScanLemmas::prefix_before))]
-#[inline(always)]
-pub(crate) fn ascii_valid_up_to_by_block(bytes: &[u8]) -> usize
-    ensures { IsLongestPrefix IsAscii bytes.now result }
-{
-    if bytes.len() < BLOCK {
-        return ascii_valid_up_to(bytes);
-    }
-    let first = first_block_prefix(bytes);
-    if first < BLOCK {
-        return first;
-    }
-    ascii_valid_up_to_after_block(bytes)
 }
 
 /// Returns the length of the longest ASCII prefix, as `ascii_valid_up_to` does, of at least N and at most 2 * N bytes. Two
@@ -103,17 +57,6 @@ fn ascii_valid_up_to_by_two<const N: usize>(bytes: &[u8]) -> usize
     if first < N { first } else { end }
 }
 
-/// Returns the length of the longest ASCII prefix, as `ascii_valid_up_to` does. Two vectors test at most 128 bytes at once.
-#[inline(always)]
-pub(crate) fn ascii_valid_up_to_by_test(bytes: &[u8]) -> usize
-    ensures { IsLongestPrefix IsAscii bytes.now result }
-{
-    if bytes.len() <= TWO_BLOCKS && is_short_ascii(bytes) {
-        return bytes.len();
-    }
-    ascii_valid_up_to_by_block(bytes)
-}
-
 /// Returns the length of the longest ASCII prefix, as `ascii_valid_up_to` does, of 16 to 64 bytes.
 #[inline(always)]
 pub(crate) fn short_ascii_valid_up_to(bytes: &[u8]) -> usize
@@ -127,14 +70,44 @@ pub(crate) fn short_ascii_valid_up_to(bytes: &[u8]) -> usize
     }
 }
 
-/// Copies at most 128 bytes if they are ASCII and fit into `dst`. Returns whether it did. Two vectors copy them.
+/// Returns the length of the longest ASCII prefix, as `ascii_valid_up_to` does, by the length of the bytes. The first `KNOWN` bytes
+/// are ASCII, none or a block. `ALL` says that nothing else is expected: two vectors test at most 128 bytes at once.
+///
+/// One mask finds the end in the first block, without a branch that depends on the text: between other characters most prefixes
+/// end there. The last block may overlap the one before it, so no byte is left to a loop.
+#[tactic(auto, using(encoding_kernels::proofs::ScanLemmas::prefix_before))]
 #[inline(always)]
-pub(crate) fn copy_short(src: &[u8], dst: &mut [u8]) -> bool
-    ensures ascii { IsTrue result → IsAscii src.now }
-    ensures copied { IsTrue result → WritesPrefix dst.old dst.new (length src.now) src.now }
-    ensures unchanged { IsFalse result → dst.new ≡ dst.old }
+pub(crate) fn ascii_valid_up_to_by_length<const KNOWN: usize, const ALL: bool>(
+    bytes: &[u8],
+) -> usize
+    requires known { (KNOWN ≤ length bytes.now) × BelowUpTo ASCII_END bytes.now KNOWN }
+    ensures { IsLongestPrefix IsAscii bytes.now result }
 {
-    src.len() <= TWO_BLOCKS && src.len() <= dst.len() && copy_short_ascii(src, dst)
+    if ALL && bytes.len() <= TWO_BLOCKS && is_short(bytes) {
+        return bytes.len();
+    }
+    if KNOWN < BLOCK {
+        if bytes.len() < BLOCK {
+            return ascii_valid_up_to(bytes);
+        }
+        let first = first_block_prefix(bytes);
+        if first < BLOCK {
+            return first;
+        }
+    }
+    let mut known = BLOCK;
+    if bytes.len() > TWO_BLOCKS {
+        known = bytes.len() / BLOCK * BLOCK;
+        let prefix = ascii_valid_up_to(&bytes[..known]);
+        if prefix < known {
+            return prefix;
+        }
+    }
+    if known == bytes.len() {
+        return known;
+    }
+    let last = bytes.len() - BLOCK;
+    last + run_len_below::<BLOCK>(bytes, last, ASCII_END)
 }
 
 /// Copies the ASCII prefix by blocks, and returns its length, or 0 if `dst` is shorter than `src`. One mask finds its end in the
@@ -178,56 +151,30 @@ fn length_of_strides(length: usize) -> usize
     }
 }
 
-/// Copies the longest ASCII prefix, and returns its length. The last stride may overlap the one before it, so a loop is left
-/// only fewer than sixteen bytes.
-#[inline(always)]
-fn copy_fitting(src: &[u8], dst: &mut [u8]) -> usize
-    requires dst_length { length src.now ≤ length dst.old }
-    ensures prefix { IsLongestPrefix IsAscii src.now result }
-    ensures copied { WritesPrefix dst.old dst.new result (take result src.now) }
-{
-    let whole = length_of_strides(src.len());
-    if let Some((_, place)) = ascii_to_ascii(&src[..whole], dst) {
-        return place;
-    }
-    if whole == src.len() {
-        return whole;
-    }
-    let last = src.len() - STRIDE;
-    let run = run_len_below::<STRIDE>(src, last, ASCII_END);
-    copy_run(src, dst, last, run);
-    last + run
-}
-
-/// Copies the longest ASCII prefix, up to the shorter of the two lengths. Returns its length.
-#[inline(always)]
+/// Copies the longest ASCII prefix, up to the shorter of the two lengths. Returns its length. Two vectors copy at most 128 bytes
+/// if all are ASCII. The last stride may overlap the one before it, so a loop is left only fewer than sixteen bytes. Out of line,
+/// so that the loops over blocks keep their constants in registers.
+#[inline(never)]
 pub(crate) fn copy_ascii_prefix(src: &[u8], dst: &mut [u8]) -> usize
     ensures prefix { IsLongestPrefix IsAscii (take (length dst.old) src.now) result }
     ensures copied { WritesPrefix dst.old dst.new result (take result src.now) }
 {
-    copy_fitting(&src[..src.len().min(dst.len())], dst)
-}
-
-/// Copies at most 64 code units, each as a byte, if they are ASCII and fit into `dst`. Returns whether it did.
-#[inline(always)]
-pub(crate) fn pack_short(src: &[u16], dst: &mut [u8]) -> bool
-    ensures ascii { IsTrue result → IsAscii src.now }
-    ensures copied { IsTrue result → WritesPrefix dst.old dst.new (length src.now) src.now }
-    ensures unchanged { IsFalse result → dst.new ≡ dst.old }
-{
-    src.len() <= UNIT_BLOCK && src.len() <= dst.len() && pack_short_ascii(src, dst)
-}
-
-/// Copies at most 64 bytes, each as a UTF-16 code unit, if they are ASCII. Returns whether they are.
-#[inline(always)]
-pub(crate) fn unpack_short(src: &[u8], dst: &mut [u16]) -> bool
-    requires src_length { length src.now ≤ 64 }
-    requires dst_length { length src.now ≤ length dst.old }
-    ensures ascii { IsTrue result ↔ IsAscii src.now }
-    ensures copied { IsTrue result → WritesPrefix dst.old dst.new (length src.now) src.now }
-    ensures unchanged { IsFalse result → dst.new ≡ dst.old }
-{
-    unpack_short_ascii(src, dst)
+    let fitting = &src[..src.len().min(dst.len())];
+    let text = BytesToBytes { src: fitting };
+    if fitting.len() <= TWO_BLOCKS && write_short::<TWO_BLOCKS, _, _>(&text, dst) {
+        return fitting.len();
+    }
+    let whole = length_of_strides(fitting.len());
+    if let Some((_, place)) = ascii_to_ascii(&fitting[..whole], dst) {
+        return place;
+    }
+    if whole == fitting.len() {
+        return whole;
+    }
+    let last = fitting.len() - STRIDE;
+    let run = run_len_below::<STRIDE>(fitting, last, ASCII_END);
+    copy_run(fitting, dst, last, run);
+    last + run
 }
 
 /// Returns whether 256 bytes of ASCII follow the first four bytes.
@@ -236,16 +183,18 @@ pub(crate) fn precedes_ascii(bytes: &[u8]) -> bool {
     bytes.len() >= 4 + FOUR_BLOCKS && are_four_blocks_below(&bytes[4..4 + FOUR_BLOCKS], ASCII_END)
 }
 
-/// Copies the longest ASCII prefix of at least sixteen bytes, each byte as a UTF-16 code unit, and returns its length. The
-/// last stride may overlap the one before it, so no byte is left to a loop.
+/// Copies the longest ASCII prefix, each byte as a UTF-16 code unit, and returns its length. The last stride may overlap the
+/// one before it, so a loop is left only fewer than sixteen bytes. Inline, for a call outside loops on more than 64 bytes.
 #[inline(always)]
-fn unpack_strides(src: &[u8], dst: &mut [u16]) -> usize
-    requires src_length { 16 ≤ length src.now }
+pub(crate) fn unpack_ascii_prefix(src: &[u8], dst: &mut [u16]) -> usize
     requires dst_length { length src.now ≤ length dst.old }
     ensures prefix { IsLongestPrefix IsAscii src.now result }
     ensures copied { WritesPrefix dst.old dst.new result (take result src.now) }
 {
-    let whole = src.len() / STRIDE * STRIDE;
+    if src.is_empty() || src[0] >= ASCII_END {
+        return 0;
+    }
+    let whole = length_of_strides(src.len());
     if let Some((_, place)) = ascii_to_basic_latin(&src[..whole], dst) {
         return place;
     }
@@ -258,77 +207,21 @@ fn unpack_strides(src: &[u8], dst: &mut [u16]) -> usize
     last + run
 }
 
-/// Copies the longest ASCII prefix, each byte as a UTF-16 code unit, and returns its length.
-#[inline(always)]
-fn unpack_prefix(src: &[u8], dst: &mut [u16]) -> usize
-    requires dst_length { length src.now ≤ length dst.old }
-    ensures prefix { IsLongestPrefix IsAscii src.now result }
-    ensures copied { WritesPrefix dst.old dst.new result (take result src.now) }
-{
-    if src.is_empty() || src[0] >= ASCII_END {
-        return 0;
-    }
-    if src.len() >= STRIDE {
-        return unpack_strides(src, dst);
-    }
-    match ascii_to_basic_latin(src, dst) {
-        Some((_, place)) => place,
-        None => src.len(),
-    }
-}
-
-/// Copies as `unpack_prefix` does. Two vectors copy at most 64 bytes if all are ASCII.
-#[inline(always)]
-fn unpack_fitting(src: &[u8], dst: &mut [u16]) -> usize
-    requires dst_length { length src.now ≤ length dst.old }
-    ensures prefix { IsLongestPrefix IsAscii src.now result }
-    ensures copied { WritesPrefix dst.old dst.new result (take result src.now) }
-{
-    if src.len() <= BLOCK && unpack_short(src, dst) {
-        return src.len();
-    }
-    unpack_prefix(src, dst)
-}
-
 /// Copies the longest ASCII prefix, each byte as a UTF-16 code unit, up to the shorter of the two lengths. Returns its
-/// length. Inline, for a call outside loops on more than 64 bytes.
-#[inline(always)]
-pub(crate) fn copy_to_basic_latin_inline(src: &[u8], dst: &mut [u16]) -> usize
-    ensures prefix { IsLongestPrefix IsAscii (take (length dst.old) src.now) result }
-    ensures copied { WritesPrefix dst.old dst.new result (take result src.now) }
-{
-    unpack_prefix(&src[..src.len().min(dst.len())], dst)
-}
-
-/// Copies as `copy_to_basic_latin_inline` does. Out of line, so that a loop that calls it needs few registers.
+/// length. Out of line, so that a loop that calls it needs few registers. Such a loop tests the first byte before: a store of no
+/// bytes would delay a load of the units that are written next.
 #[inline(never)]
-fn copy_some_to_basic_latin(src: &[u8], dst: &mut [u16]) -> usize
-    ensures prefix { IsLongestPrefix IsAscii (take (length dst.old) src.now) result }
-    ensures copied { WritesPrefix dst.old dst.new result (take result src.now) }
-{
-    unpack_fitting(&src[..src.len().min(dst.len())], dst)
-}
-
-/// Copies the longest ASCII prefix, each byte as a UTF-16 code unit, up to the shorter of the two lengths. Returns its
-/// length.
-#[tactic(auto, using(encoding_kernels::proofs::ScanLemmas::prefix_before))]
-#[inline(always)]
 pub(crate) fn copy_to_basic_latin(src: &[u8], dst: &mut [u16]) -> usize
     ensures prefix { IsLongestPrefix IsAscii (take (length dst.old) src.now) result }
     ensures copied { WritesPrefix dst.old dst.new result (take result src.now) }
 {
-    // a store of no bytes would delay a load of the units that are written next
-    if !src.is_empty() && src[0] >= ASCII_END {
-        return 0;
+    let fitting = &src[..src.len().min(dst.len())];
+    let text = BytesToUnits { src: fitting };
+    if fitting.len() <= BLOCK && write_short::<BLOCK, _, _>(&text, dst) {
+        return fitting.len();
     }
-    copy_some_to_basic_latin(src, dst)
+    unpack_ascii_prefix(fitting, dst)
 }
-
-/// The least length of a text whose UTF-16 has at least as many code units as a block.
-pub(crate) const BLOCK_OF_TEXT: usize = 3 * BLOCK;
-
-/// The least length of a text whose UTF-16 has at least as many code units as a stride.
-const STRIDE_OF_TEXT: usize = 3 * STRIDE;
 
 /// Copies an ASCII prefix of a text, each byte as a UTF-16 code unit, and returns its length. `dst` is at least as long
 /// as `src`. Units that the UTF-16 of the rest of the text overwrites may have changed too.
@@ -369,7 +262,7 @@ pub(crate) fn copy_prefix_of_text(src: &[u8], dst: &mut [u16]) -> usize
         unpack::<STRIDE>(src, dst, at);
         at += run;
     }
-    if at == src.len() {
+    if at == src.len() || src[at] >= ASCII_END {
         return at;
     }
     at + copy_to_basic_latin(&src[at..], &mut dst[at..])

@@ -6,9 +6,8 @@ ghost use Rattle.encoding_text.specs.Decoding.{IsMalformed};
 ghost use Rattle.encoding_text.specs.Steps.{GoesOn};
 
 use super::DecoderResult;
-use encoding_kernels::scalar::{
-    begins_several, is_continuation, is_lead_with_continuation, is_second, sequence_length,
-};
+use crate::utf_8::first::{First, goes_on};
+use encoding_kernels::scalar::sequence_length;
 use std::marker::Model;
 
 /// None, or an incomplete sequence.
@@ -38,37 +37,6 @@ pub(crate) enum Resumed {
     Complete([u8; 4], usize),
     /// A malformed sequence of this length.
     Rejected(usize),
-}
-
-/// Returns whether the byte may follow the first `count` bytes of a sequence that starts with `lead`.
-fn goes_on(lead: u8, count: usize, byte: u8) -> bool
-    ensures { IsTrue result ↔ GoesOn lead count byte }
-{
-    if count == 1 {
-        is_second(lead, byte)
-    } else {
-        is_continuation(byte)
-    }
-}
-
-/// Returns whether the first two bytes show that the first one is a malformed sequence by itself: it begins no sequence of
-/// several, or no continuation byte follows it. Of `E0 80` it returns false, though E0 is a malformed sequence there too.
-#[inline]
-pub(crate) fn is_malformed_byte(bytes: &[u8]) -> bool
-    requires not_empty { 0 < length bytes.now }
-    ensures malformed { (last : Bool) → IsTrue result
-        → IsMalformed (take 1 bytes.now) (drop 1 bytes.now) last }
-    ensures begins { BeginsWithNoCharacter bytes.now → result ≡ false
-        → IsIncomplete (take 1 bytes.now) }
-{
-    let lead = bytes[0];
-    if lead < 0x80 {
-        return false;
-    }
-    if bytes.len() == 1 {
-        return !begins_several(lead);
-    }
-    !is_lead_with_continuation(lead, bytes[1])
 }
 
 impl Model for Pending {
@@ -179,6 +147,7 @@ impl Pending {
 
     /// Ends a call before `rest`, which starts with no character: reads the malformed sequence, or keeps an incomplete
     /// sequence as pending. Returns what ended the call and how many bytes were read.
+    #[tactic(auto, using(crate::proofs::CallLemmas::not_ascii))]
     #[inline]
     pub(crate) fn end_before(&mut self, rest: &[u8], last: bool) -> (DecoderResult, usize)
         requires neutral { self.old ≡ [] }
@@ -186,26 +155,29 @@ impl Pending {
         requires no_character { BeginsWithNoCharacter rest.now }
         ensures { IsResultWithoutCharacter rest.now last result.0 result.1 self.new }
     {
-        if is_malformed_byte(rest) {
-            return (DecoderResult::Malformed(1, 0), 1);
+        if let Some(First::Malformed(length)) = First::of_two(rest) {
+            return (DecoderResult::Malformed(length as u8, 0), length);
         }
-        self.end_in_incomplete(rest, last)
+        self.end_after_two(rest, last)
     }
 
-    /// Ends a call as `end_before` does if the first byte starts a sequence of several. Out of line: most malformed
-    /// sequences are one byte.
+    /// Ends a call as `end_before` does. Out of line: most malformed sequences are one byte, and two show them.
+    #[tactic(auto, using(crate::proofs::CallLemmas::not_ascii, crate::proofs::FirstLemmas::pending_rest))]
     #[inline(never)]
-    pub(crate) fn end_in_incomplete(&mut self, rest: &[u8], last: bool) -> (DecoderResult, usize)
+    pub(crate) fn end_after_two(&mut self, rest: &[u8], last: bool) -> (DecoderResult, usize)
+        requires neutral { self.old ≡ [] }
         requires not_empty { 0 < length rest.now }
         requires no_character { BeginsWithNoCharacter rest.now }
-        requires begins { IsIncomplete (take 1 rest.now) }
         ensures { IsResultWithoutCharacter rest.now last result.0 result.1 self.new }
     {
-        *self = Pending::hold(&rest[..1]);
-        match self.resume(&rest[1..]) {
-            (Resumed::Ended, _) => (self.end(last), rest.len()),
-            (Resumed::Rejected(count), _) => (DecoderResult::Malformed(count as u8, 0), count),
-            (Resumed::Complete(..), _) => unreachable!(),
+        match First::by_bytes(rest) {
+            First::Malformed(length) => (DecoderResult::Malformed(length as u8, 0), length),
+            First::Incomplete => {
+                *self = Pending::hold(rest);
+                (self.end(last), rest.len())
+            }
+            First::Ascii => unreachable!(),
+            First::Character(_) => unreachable!(),
         }
     }
 }

@@ -7,7 +7,8 @@ ghost use Rattle.encoding_text.specs.Replacing.{ConvertsParts};
 
 use super::pending::Pending;
 use super::{DecoderResult, decode};
-use crate::utf_8::{CodeUnit, character_length};
+use crate::utf_8::CodeUnit;
+use crate::utf_8::first::First;
 use encoding_kernels::scalar::write_scalar;
 
 /// The scalar value that replaces a malformed sequence.
@@ -53,7 +54,7 @@ impl Replacing for u8 {
 
 /// Returns the length of the malformed sequence at the start of the bytes, which are all that is left. `None` if there
 /// are none, or they start with a character.
-#[tactic(auto, using(crate::proofs::ReplacingLemmas::begins_character))]
+#[tactic(auto, using(crate::proofs::ReplacingLemmas::begins_character, crate::proofs::FirstLemmas::all_malformed))]
 fn malformed_length(bytes: &[u8]) -> Option<usize>
     ensures if_some { IfSome result (λ n. (n ≤ length bytes.now)
         × IsMalformed (take n bytes.now) (drop n bytes.now) true) }
@@ -62,11 +63,12 @@ fn malformed_length(bytes: &[u8]) -> Option<usize>
     if bytes.is_empty() {
         return None;
     }
-    if let Some(_length) = character_length(bytes) {
-        return None;
+    match First::of(bytes) {
+        First::Malformed(length) => Some(length),
+        First::Incomplete => Some(bytes.len()),
+        First::Ascii => None,
+        First::Character(_) => None,
     }
-    let (_, length) = Pending::none().end_before(bytes, true);
-    Some(length)
 }
 
 /// Converts the first parts of `src`, characters and malformed sequences, as many as fit into `dst`. Returns how many

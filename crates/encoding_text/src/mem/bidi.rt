@@ -10,8 +10,9 @@ ghost use Rattle.encoding_text.specs.Classes.{Classifies};
 ghost use Rattle.encoding_kernels.specs.RightToLeft.{rtl_second_end, rtl_mark_lead, RtlAt, NoRtlIn};
 
 use super::checks::{LATIN1_END, str_latin1_up_to, utf8_latin1_up_to};
-use crate::ascii::prefixes::ascii_valid_up_to_by_test;
-use crate::utf_8::{character_length, utf8_valid_up_to};
+use crate::ascii::prefixes::ascii_valid_up_to_by_length;
+use crate::utf_8::first::character_length;
+use crate::utf_8::utf8_valid_up_to;
 use encoding_kernels::bidi::{FIRST_LEAD, FIRST_UNIT, skip_clear, skip_clear_units};
 use encoding_kernels::scalar::decode_utf8_scalar;
 use encoding_kernels::simd::scan::{prefix_len_below, skip_units_below};
@@ -154,7 +155,7 @@ fn clear_prefix_len(bytes: &[u8]) -> Option<usize>
         × (IsBidiText (take n bytes.now) → ⊥)) }
     ensures found { IfNone result (IsBidiBytes bytes.now) }
 {
-    let prefix = ascii_valid_up_to_by_test(bytes);
+    let prefix = ascii_valid_up_to_by_length::<0, true>(bytes);
     if prefix == bytes.len() {
         return Some(prefix);
     }
@@ -207,15 +208,6 @@ pub fn is_utf16_bidi(buffer: &[u16]) -> bool
     false
 }
 
-/// Skips Latin1 from the start, by vectors, and returns how many code units: all if all are Latin1.
-fn skip_latin1(buffer: &[u16]) -> usize
-    ensures within { result ≤ length buffer.now }
-    ensures latin1 { IsLatin1 (take result buffer.now) }
-    ensures whole { IsLatin1 buffer.now → result ≡ length buffer.now }
-{
-    skip_units_below(buffer, LATIN1_END)
-}
-
 /// Returns `Latin1` if the bytes are the UTF-8 of scalar values up to U+00FF, otherwise `Bidi` if `is_utf8_bidi` holds,
 /// and otherwise `LeftToRight`.
 pub fn check_utf8_for_latin1_and_bidi(buffer: &[u8]) -> Latin1Bidi
@@ -253,7 +245,7 @@ pub fn check_str_for_latin1_and_bidi(buffer: &str) -> Latin1Bidi
 pub fn check_utf16_for_latin1_and_bidi(buffer: &[u16]) -> Latin1Bidi
     ensures { Classifies (IsLatin1 buffer.now) (IsBidiUnits buffer.now) result }
 {
-    let prefix = skip_latin1(buffer);
+    let prefix = skip_units_below(buffer, LATIN1_END);
     if prefix == buffer.len() {
         return Latin1Bidi::Latin1;
     }

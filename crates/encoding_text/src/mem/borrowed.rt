@@ -7,7 +7,7 @@ ghost use Rattle.encoding_text.specs.Borrowed.{DecodesLatin1, EncodesLatin1};
 ghost use Rattle.encoding_definitions.specs.Prefixes.{WritesPrefix};
 ghost use Rattle.encoding_definitions.specs.Latin1.{IsUtf8Latin1};
 
-use crate::ascii::prefixes::ascii_valid_up_to_by_test;
+use crate::ascii::prefixes::ascii_valid_up_to_by_length;
 use crate::mem::latin1;
 use std::alloc::{AllocError, Global};
 
@@ -36,7 +36,7 @@ pub enum CowBytes<'a> {
 pub fn decode_latin1<'a>(alloc: Global, bytes: &'a [u8]) -> Result<CowStr<'a>, AllocError>
     ensures { DecodesLatin1 bytes.now result }
 {
-    let prefix = ascii_valid_up_to_by_test(bytes);
+    let prefix = ascii_valid_up_to_by_length::<0, true>(bytes);
     if prefix == bytes.len() {
         return Ok(CowStr::Borrowed(ascii_text(bytes)));
     }
@@ -51,7 +51,7 @@ pub fn encode_latin1_lossy<'a>(alloc: Global, string: &'a str) -> Result<CowByte
     ensures encoded { EncodesLatin1 string.now result }
 {
     let text = string.as_bytes();
-    let prefix = ascii_valid_up_to_by_test(text);
+    let prefix = ascii_valid_up_to_by_length::<0, true>(text);
     if prefix == text.len() {
         return Ok(CowBytes::Borrowed(text));
     }

@@ -7,13 +7,13 @@ ghost use Rattle.encoding_definitions.specs.Latin1.{IsLatin1, IsUtf8Latin1};
 ghost use Rattle.encoding_kernels.specs.Scans.{BelowUpTo};
 
 use crate::ascii::ascii_valid_up_to;
+use crate::ascii::prefixes::is_short;
 use encoding_kernels::latin1::validate::{BEYOND_LATIN1, latin1_blocks};
 use encoding_kernels::scalar::is_continuation;
 use encoding_kernels::simd::scan::{
     are_bytes_below, are_four_blocks_below, are_units_below, prefix_after_stride, prefix_len_below,
     run_len_below,
 };
-use encoding_kernels::simd::short::is_short_ascii;
 use encoding_kernels::simd::width::{
     ASCII_END, BASIC_LATIN_END, BLOCK, FOUR, FOUR_BLOCKS, SIXTEEN, STRIDE, UNIT_BLOCK,
 };
@@ -148,7 +148,7 @@ pub fn utf8_latin1_up_to(buffer: &[u8]) -> usize
     ensures { IsLongestPrefix IsUtf8Latin1 buffer.now result }
 {
     if buffer.len() < STRIDE {
-        if is_short_ascii(buffer) {
+        if is_short(buffer) {
             return buffer.len();
         }
         return longest_latin1(buffer, 0);

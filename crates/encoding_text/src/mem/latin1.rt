@@ -6,14 +6,16 @@ ghost use Rattle.std.specs.Str.{IsAscii, chars};
 ghost use Rattle.encoding_definitions.specs.Prefixes.{IsLongestFittingPrefix, WritesPrefix};
 ghost use Rattle.encoding_definitions.specs.Latin1.{IsUtf8Latin1};
 
-use crate::ascii::prefixes::{copy_ascii_prefix, copy_blocks, copy_short};
+use crate::ascii::prefixes::{BytesToBytes, copy_ascii_prefix, copy_blocks, write_short};
 use encoding_kernels::latin1::from_utf8::{
     latin1_length_of_first, latin1_of, latin1_of_after, write_latin1_of_two,
 };
-use encoding_kernels::latin1::to_utf8::{utf8_length_of_first, write_latin1, write_latin1_block};
-use encoding_kernels::simd::copy::{pack_lower, unpack_part, write_first};
+use encoding_kernels::latin1::to_utf8::{
+    utf8_length_of_first, write_few_latin1, write_latin1, write_latin1_block,
+};
+use encoding_kernels::simd::copy::{copy_prefix, pack_lower, unpack_part, write_first};
 use encoding_kernels::simd::scan::are_bytes_below;
-use encoding_kernels::simd::width::{ASCII_END, BLOCK, STRIDE, TWO_BLOCKS};
+use encoding_kernels::simd::width::{ASCII_END, BLOCK, HALF_STRIDE, STRIDE, TWO_BLOCKS};
 use encoding_kernels::tuning::BLOCKS_BEFORE_RETEST;
 use std::simd::prelude::*;
 
@@ -44,34 +46,6 @@ pub fn convert_latin1_to_utf16(src: &[u8], dst: &mut [u16])
 
 /// Copies the longest ASCII prefix that fits, and returns its length.
 #[inline(always)]
-fn copy_first_ascii(src: &[u8], dst: &mut [u8]) -> usize
-    ensures within { (result ≤ length src.now) × (result ≤ length dst.old) }
-    ensures ascii { IsAscii (take result src.now) }
-    ensures stops { result < length src.now → result < length dst.old
-        → 0x80 ≤ slice_index src.now result }
-    ensures copied { WritesPrefix dst.old dst.new result (take result src.now) }
-{
-    copy_ascii_prefix(src, dst)
-}
-
-/// Copies the longest ASCII prefix that fits, and returns its length. Two vectors copy at most 128 bytes if all are ASCII.
-/// Out of line, so that the loops over blocks keep their constants in registers.
-#[inline(never)]
-fn copy_some_ascii(src: &[u8], dst: &mut [u8]) -> usize
-    ensures within { (result ≤ length src.now) × (result ≤ length dst.old) }
-    ensures ascii { IsAscii (take result src.now) }
-    ensures stops { result < length src.now → result < length dst.old
-        → 0x80 ≤ slice_index src.now result }
-    ensures copied { WritesPrefix dst.old dst.new result (take result src.now) }
-{
-    if copy_short(src, dst) {
-        return src.len();
-    }
-    copy_first_ascii(src, dst)
-}
-
-/// Copies the longest ASCII prefix that fits, and returns its length.
-#[inline(always)]
 fn copy_ascii(src: &[u8], dst: &mut [u8]) -> usize
     ensures within { (result ≤ length src.now) × (result ≤ length dst.old) }
     ensures ascii { IsAscii (take result src.now) }
@@ -82,7 +56,7 @@ fn copy_ascii(src: &[u8], dst: &mut [u8]) -> usize
     if !src.is_empty() && src[0] >= ASCII_END {
         return 0;
     }
-    copy_some_ascii(src, dst)
+    copy_ascii_prefix(src, dst)
 }
 
 /// Writes the UTF-8 of blocks of 64 bytes and then of 16, until the next 64 bytes are ASCII. Returns how many bytes it read
@@ -171,6 +145,24 @@ fn convert_latin1_turns(src: &[u8], dst: &mut [u8], from: usize, to: usize) -> (
     (read, written)
 }
 
+/// Writes the UTF-8 of at most seven bytes of Latin1 as `write_few_latin1` does for more, and returns its length. Arrays hold
+/// these bytes and their UTF-8, since `dst` may have no space for a vector.
+#[inline(never)]
+fn write_least_latin1(src: &[u8], dst: &mut [u8]) -> usize
+    requires src_length { length src.now < 8 }
+    requires dst_length { 2 * length src.now ≤ length dst.old }
+    ensures written { WritesPrefix dst.old dst.new result (encode_utf8_all src.now) }
+{
+    let mut bytes = [0; STRIDE];
+    copy_prefix(src, &mut bytes);
+    let block = u8x16::from_slice(&bytes);
+    let mut text = [0; 2 * STRIDE];
+    write_latin1(block, &mut text, 0);
+    let length = utf8_length_of_first(block, src.len());
+    copy_prefix(&text[..length], dst);
+    length
+}
+
 /// Converts Latin1 as `convert_latin1_to_utf8_partial` does, by blocks from the first byte on, even if ASCII comes first. Turns
 /// follow only if these leave something. Out of line, so that ASCII alone needs few registers.
 #[inline(never)]
@@ -181,8 +173,20 @@ fn convert_few_latin1(src: &[u8], dst: &mut [u8]) -> (usize, usize)
     ensures written { WritesPrefix dst.old dst.new result.1
         (encode_utf8_all (take result.0 src.now)) }
 {
+    if src.len() < STRIDE {
+        if src.len() == 1 || dst.len() / 2 < src.len() {
+            return convert_latin1_turns(src, dst, 0, 0);
+        }
+        if src.len() < HALF_STRIDE {
+            return (src.len(), write_least_latin1(src, dst));
+        }
+        return (src.len(), write_few_latin1(src, dst));
+    }
     let (read, written) = convert_latin1_blocks(src, dst);
-    if src.len() >= STRIDE && read < src.len() && src.len() - read < STRIDE {
+    if read == src.len() {
+        return (read, written);
+    }
+    if src.len() - read < STRIDE {
         if let Some(length) = finish_latin1(src, dst, read, written) {
             return (src.len(), length);
         }
@@ -220,7 +224,8 @@ pub fn convert_latin1_to_utf8_partial(src: &[u8], dst: &mut [u8]) -> (usize, usi
     if src.len() > TWO_BLOCKS {
         return convert_long_latin1(src, dst);
     }
-    if copy_short(src, dst) {
+    let text = BytesToBytes { src };
+    if src.len() <= dst.len() && write_short::<TWO_BLOCKS, _, _>(&text, dst) {
         return (src.len(), src.len());
     }
     convert_few_latin1(src, dst)
@@ -375,7 +380,8 @@ pub fn convert_utf8_to_latin1(src: &[u8], dst: &mut [u8]) -> usize
     if src.len() > TWO_BLOCKS {
         return convert_long_utf8(src, dst);
     }
-    if copy_short(src, dst) {
+    let text = BytesToBytes { src };
+    if src.len() <= dst.len() && write_short::<TWO_BLOCKS, _, _>(&text, dst) {
         return src.len();
     }
     convert_few_utf8(src, dst)

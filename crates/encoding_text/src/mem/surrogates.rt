@@ -1,4 +1,4 @@
-//! Unpaired surrogates in UTF-16: the longest valid prefix, and repair in place.
+//! Unpaired surrogates in UTF-16: the longest prefix without one, and U+FFFD instead of each.
 
 ghost use Rattle.std.specs.Prelude.{◌≡◌, ◌+◌, ◌-◌, ◌<◌, ◌≤◌, length, drop};
 ghost use Rattle.encoding_definitions.specs.Prefixes.{IsLongestPrefix};

@@ -8,11 +8,12 @@ ghost use Rattle.encoding_definitions.specs.Parts.{Part, ArePartsOf, lossy_utf16
 ghost use Rattle.encoding_definitions.specs.Prefixes.{WritesPrefix};
 ghost use Rattle.encoding_definitions.specs.Converting.{WritesText};
 
-use crate::ascii::prefixes::{BLOCK_OF_TEXT, copy_to_basic_latin_inline, unpack_short};
+use crate::ascii::prefixes::{BytesToUnits, unpack_ascii_prefix, write_short};
 use crate::decoder::{DecoderResult, Utf8Decoder};
 use crate::utf_8::{convert_text, convert_utf8_to_utf16_up_to_invalid};
-use encoding_kernels::simd::width::{ASCII_END, BLOCK};
-use encoding_kernels::utf8_to_utf16::short_text::convert_short;
+use encoding_kernels::lengths::{BLOCK_OF_TEXT, SHORT};
+use encoding_kernels::simd::width::ASCII_END;
+use encoding_kernels::utf8_to_utf16::text::convert_short;
 
 /// Converts bytes to UTF-16, with U+FFFD for each malformed sequence, and returns how many code units it wrote.
 /// Encoding Standard, UTF-8 decode without BOM.
@@ -58,7 +59,7 @@ fn convert_long_text(src: &[u8], dst: &mut [u16]) -> usize
     if src.len() >= BLOCK_OF_TEXT || src[0] >= ASCII_END {
         return convert_text(src, dst);
     }
-    let ascii = copy_to_basic_latin_inline(src, dst);
+    let ascii = unpack_ascii_prefix(src, dst);
     if ascii == src.len() {
         return ascii;
     }
@@ -73,10 +74,10 @@ pub fn convert_str_to_utf16(src: &str, dst: &mut [u16]) -> usize
     ensures { WritesPrefix dst.old dst.new result (flat_map encode_utf16 (chars src.now)) }
 {
     let bytes = src.as_bytes();
-    if bytes.len() > BLOCK {
+    if bytes.len() > SHORT {
         return convert_long_text(bytes, dst);
     }
-    if unpack_short(bytes, dst) {
+    if write_short::<SHORT, _, _>(&BytesToUnits { src: bytes }, dst) {
         return bytes.len();
     }
     convert_short(bytes, dst)

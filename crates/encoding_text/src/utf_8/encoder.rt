@@ -8,9 +8,12 @@ ghost use Rattle.encoding_definitions.specs.Utf16.{IsHighSurrogate};
 ghost use Rattle.encoding_definitions.specs.FirstScalar.{IsFirstScalar};
 ghost use Rattle.encoding_text.specs.Encoding.{IsPendingSurrogate, EndsHigh, EncodeStep, TextEncodeStep};
 
-use crate::utf_8::from_utf16::{REPLACEMENT_CHARACTER, convert_utf16_to_utf8_partial};
+mod counted;
+
+use crate::utf_8::from_utf16::convert_utf16_to_utf8_partial;
 use encoding_kernels::scalar::{
-    is_high_surrogate, is_low_surrogate, pair_scalar, utf8_length, write_scalar,
+    REPLACEMENT_CHARACTER, is_high_surrogate, is_low_surrogate, pair_scalar, utf8_length,
+    write_scalar,
 };
 use std::marker::Model;
 

@@ -1,17 +1,18 @@
 //! UTF-16 to UTF-8, into a destination of any length. A conversion leaves the rest of `dst` unchanged.
-ghost use Rattle.std.specs.Prelude.{◌≡◌, ◌+◌, ◌<◌, ◌≤◌, ◌⊎◌, ◌-◌, ◌↔◌, length, take, slice_index, IsTrue, IsFalse, ◌*◌};
+ghost use Rattle.std.specs.Prelude.{◌≡◌, ◌+◌, ◌<◌, ◌≤◌, ◌⊎◌, ◌-◌, ◌↔◌, length, take, slice_index, IsTrue, IsFalse, ◌*◌, IsUtf8, encode_utf8_all};
+ghost use Rattle.std.specs.Char.Utf16.{utf16_lossy_chars};
 ghost use Rattle.std.specs.Str.{IsAscii};
 ghost use Rattle.encoding_definitions.specs.Prefixes.{WritesPrefix};
 ghost use Rattle.encoding_definitions.specs.Utf16.{IsHighSurrogate, IsLowSurrogate, IsUtf8OfPrefix, IsUtf8OfLongestPrefix, IsUtf8OfUnits};
 
 use crate::ascii;
+use crate::ascii::prefixes::{UnitsToBytes, write_short};
 use encoding_kernels::scalar::{
     is_high_surrogate, is_low_surrogate, utf8_length, utf16_length, write_scalar,
 };
-use encoding_kernels::simd::width::{BASIC_LATIN_END, HALF_STRIDE};
-use encoding_kernels::utf16_to_utf8::convert::{convert_blocks, convert_paired_blocks};
-pub(super) use encoding_kernels::utf16_to_utf8::mixed::REPLACEMENT_CHARACTER;
-use encoding_kernels::utf16_to_utf8::mixed::scalar_at;
+use encoding_kernels::simd::width::{BASIC_LATIN_END, HALF_STRIDE, UNIT_BLOCK};
+use encoding_kernels::utf16_to_utf8::tail::scalar_at;
+use encoding_kernels::utf16_to_utf8::text::{convert_blocks, convert_paired_blocks};
 
 /// The most bytes that a character has in UTF-8.
 const LONGEST: usize = 4;
@@ -41,7 +42,9 @@ fn copy_short_ascii(src: &[u16], dst: &mut [u8]) -> bool
         (take (length src.now) dst.new) }
     ensures unchanged { IsFalse result → dst.new ≡ dst.old }
 {
-    src.len() <= dst.len().saturating_sub(LONGEST - 1) && ascii::prefixes::pack_short(src, dst)
+    src.len() <= UNIT_BLOCK
+        && src.len() <= dst.len().saturating_sub(LONGEST - 1)
+        && write_short::<UNIT_BLOCK, _, _>(&UnitsToBytes { src }, dst)
 }
 
 /// Returns whether a surrogate pair is at index `at`.
@@ -178,6 +181,8 @@ pub fn convert_utf16_to_utf8_partial(src: &[u16], dst: &mut [u8]) -> (usize, usi
 pub fn convert_utf16_to_utf8(src: &[u16], dst: &mut [u8]) -> usize
     requires dst_length { 3 * length src.now ≤ length dst.old }
     ensures all { IsUtf8OfUnits src.now (take result dst.new) }
+    ensures text { IsUtf8 (take result dst.new) }
+    ensures lossy { take result dst.new ≡ encode_utf8_all (utf16_lossy_chars src.now) }
     ensures unchanged_after { WritesPrefix dst.old dst.new result (take result dst.new) }
 {
     let (_, written) = convert_utf16_to_utf8_partial(src, dst);

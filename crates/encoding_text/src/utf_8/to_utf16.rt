@@ -8,20 +8,18 @@ ghost use Rattle.encoding_definitions.specs.Prefixes.{WritesPrefix};
 ghost use Rattle.encoding_definitions.specs.Converting.{ConvertsMaximal};
 ghost use Rattle.encoding_text.specs.Steps.{ConvertsUntilFull};
 
-use super::validation::{
-    begins_no_character, character_length, short_valid_up_to_beyond_ascii, utf8_valid_up_to,
-    valid_up_to,
-};
+use super::first::{First, character_length};
+use super::validate::{utf8_valid_up_to, valid_beyond_ascii, valid_up_to_by_vectors};
 use crate::ascii::prefixes::{
-    copy_prefix_of_text, copy_to_basic_latin, copy_to_basic_latin_inline, precedes_ascii,
-    unpack_short,
+    BytesToUnits, copy_prefix_of_text, copy_to_basic_latin, is_short, precedes_ascii,
+    unpack_ascii_prefix, write_short,
 };
+use encoding_kernels::lengths::{LEAST_FOR_VECTORS, SHORT};
 use encoding_kernels::scalar::{decode_utf8_scalar, write_utf16};
 use encoding_kernels::simd::copy::copy_prefix;
-use encoding_kernels::simd::width::{ASCII_END, BLOCK, HALF_STRIDE};
+use encoding_kernels::simd::width::ASCII_END;
 use encoding_kernels::tuning::CONVERTED_PIECE;
-use encoding_kernels::utf8_to_utf16::convert::convert_valid_utf8_to_utf16;
-use encoding_kernels::utf8_to_utf16::short_text::convert_short;
+use encoding_kernels::utf8_to_utf16::text::{convert_short, convert_valid_utf8_to_utf16};
 
 /// What text is converted to: bytes of UTF-8, or code units of UTF-16.
 pub(crate) trait CodeUnit: Copy {
@@ -84,7 +82,7 @@ fn convert_short_text(src: &[u8], dst: &mut [u16]) -> usize
     requires text { IsUtf8 src.now }
     ensures { WritesPrefix dst.old dst.new result (flat_map encode_utf16 (chars src.now)) }
 {
-    if unpack_short(src, dst) {
+    if write_short::<SHORT, _, _>(&BytesToUnits { src }, dst) {
         return src.len();
     }
     convert_short(src, dst)
@@ -98,13 +96,13 @@ fn convert_short_prefix(src: &[u8], dst: &mut [u16]) -> (usize, usize)
     requires dst_length { length src.now ≤ length dst.old }
     ensures { ConvertsMaximal encode_utf16 src.now dst.old dst.new result.0 result.1 }
 {
-    if unpack_short(src, dst) {
+    if write_short::<SHORT, _, _>(&BytesToUnits { src }, dst) {
         return (src.len(), src.len());
     }
-    if src.len() < HALF_STRIDE {
+    if src.len() < LEAST_FOR_VECTORS {
         return convert_after_ascii(src, dst);
     }
-    let valid = short_valid_up_to_beyond_ascii(src);
+    let valid = valid_up_to_by_vectors::<true>(src);
     if valid == src.len() {
         return (valid, convert_short(src, dst));
     }
@@ -160,9 +158,11 @@ fn convert_turns(src: &[u8], dst: &mut [u16]) -> (usize, usize)
     let mut read = 0;
     let mut written = 0;
     loop {
-        let ascii = copy_to_basic_latin(&src[read..], &mut dst[written..]);
-        read += ascii;
-        written += ascii;
+        if read < src.len() && src[read] < ASCII_END {
+            let ascii = copy_to_basic_latin(&src[read..], &mut dst[written..]);
+            read += ascii;
+            written += ascii;
+        }
         let room = piece_length(&src[read..], dst.len() - written);
         let valid = utf8_valid_up_to(&src[read..read + room]);
         written += convert_text(&src[read..read + valid], &mut dst[written..]);
@@ -185,12 +185,12 @@ fn convert_turns(src: &[u8], dst: &mut [u16]) -> (usize, usize)
 fn convert_after_ascii(src: &[u8], dst: &mut [u16]) -> (usize, usize)
     ensures { ConvertsMaximal encode_utf16 src.now dst.old dst.new result.0 result.1 }
 {
-    let ascii = copy_to_basic_latin_inline(src, dst);
+    let ascii = unpack_ascii_prefix(&src[..src.len().min(dst.len())], dst);
     if ascii == src.len() {
         return (ascii, ascii);
     }
     // between malformed sequences there is often only ASCII
-    if src[ascii] >= ASCII_END && begins_no_character(&src[ascii..]) {
+    if src[ascii] >= ASCII_END && First::begins_none(&src[ascii..]) {
         return (ascii, ascii);
     }
     let (read, written) = convert_turns(&src[ascii..], &mut dst[ascii..]);
@@ -203,7 +203,7 @@ fn convert_after_ascii(src: &[u8], dst: &mut [u16]) -> (usize, usize)
 pub fn convert_utf8_to_utf16_up_to_invalid(src: &[u8], dst: &mut [u16]) -> (usize, usize)
     ensures { ConvertsMaximal encode_utf16 src.now dst.old dst.new result.0 result.1 }
 {
-    if src.len() <= BLOCK && src.len() <= dst.len() {
+    if src.len() <= SHORT && src.len() <= dst.len() {
         return convert_short_prefix(src, dst);
     }
     convert_after_ascii(src, dst)
@@ -218,7 +218,11 @@ fn copy_utf8_up_to_invalid(src: &[u8], dst: &mut [u8]) -> (usize, usize)
     ensures { ConvertsUntilFull encode_utf8 src.now dst.old dst.new result.0 result.1 }
 {
     let room = src.len().min(dst.len());
-    let length = valid_up_to(&src[..room]);
+    if room <= SHORT && is_short(&src[..room]) {
+        copy_prefix(&src[..room], dst);
+        return (room, room);
+    }
+    let length = valid_beyond_ascii::<true>(&src[..room]);
     copy_prefix(&src[..length], dst);
     (length, length)
 }

@@ -6,4 +6,4 @@ pub swizzle-bytes : goal.swizzle-bytes
 swizzle-bytes c = places_ok (length c.args.src.now)
 
 pub returns : goal.returns
-returns c = with_zeros_is c.args.src.now c.requires.0 c.requires.1
+returns c = with_zeros_is c.args.src.now c.first_and_last_eight-both.result c.requires.0 c.requires.1 c.first_and_last_eight-both.ensures

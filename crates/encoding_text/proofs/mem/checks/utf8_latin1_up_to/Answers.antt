@@ -13,5 +13,5 @@ returns-then-buffer-run-ge-BEYOND_LATIN1 c =
     let below : BelowUpTo 0x80 bytes run = λ k l. c.run_len_below-run.ensures.pass k (omega arith) (omega (arith, l)) in
     latin1_stop bytes run (omega arith) (ascii_latin1 bytes run (omega arith) below) (λ l. (omega (arith, high), λ p q r s t. omega (arith, high, q)))
 
-pub returns-then-is_short_ascii : goal.returns-then-is_short_ascii
-returns-then-is_short_ascii c = whole_latin1 c.args.buffer.now (c.is_short_ascii.ensures.0 c.if-is_short_ascii.true)
+pub returns-then-is_short : goal.returns-then-is_short
+returns-then-is_short c = whole_latin1 c.args.buffer.now (c.is_short.ensures.0 c.if-is_short.true)

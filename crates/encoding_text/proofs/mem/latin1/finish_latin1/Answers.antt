@@ -8,7 +8,7 @@ overflow_sub-at c =
     omega (
       arith,
       c.requires.counted.0,
-      c.utf8_length_of_first.ensures,
+      c.utf8_length_of_first.ensures.out_length,
       again_counted src c.args.read (length src - 16) (omega (arith, c.requires.left))
           (omega (arith, c.requires.left)),
     )
@@ -21,5 +21,5 @@ returns-clause-finished c old w =
     let first : last ≤ c.args.read = omega (arith, c.requires.left) in
     let call = c.write_latin1.ensures in
     latin1_again src c.args.read last long first old c.args.dst.now _ c.args.written _ c.write_latin1.result w
-    (omega (arith, c.requires.counted.0, c.utf8_length_of_first.ensures, again_counted src c.args.read last long first)) call.out_length
+    (omega (arith, c.requires.counted.0, c.utf8_length_of_first.ensures.out_length, again_counted src c.args.read last long first)) call.out_length
     (omega (arith, call.length_bound, c.if-dst-at.false)) call.written

@@ -3,6 +3,7 @@ use Rattle.std.specs.List.{flat_map}
 use Rattle.std.specs.Char.Escape.{encode_utf16}
 use Rattle.std.specs.Str.{chars}
 use Rattle.encoding_definitions.specs.Prefixes.{WritesPrefix}
+use Rattle.encoding_kernels.proofs.ScanLemmas.{ascii_below}
 use Rattle.encoding_text.proofs.ConvertingLemmas.{ascii_written}
 use Rattle.encoding_text.proofs.mem.to_utf16.convert_str_to_utf16.Goals as goal
 
@@ -11,7 +12,9 @@ written_same : (bytes src old new : List ℕ) (n : ℕ) → bytes ≡ src → Wr
     → WritesPrefix old new n (flat_map encode_utf16 (chars src))
 written_same bytes src old new n e w = subst (λ xs. WritesPrefix old new n (flat_map encode_utf16 (chars xs))) e w
 
-pub returns-then-unpack_short : goal.returns-then-unpack_short
-returns-then-unpack_short c =
-    let ascii = ascii_written _ _ _ (c.unpack_short.ensures.ascii.0 c.if-unpack_short.true) (c.unpack_short.ensures.copied c.if-unpack_short.true) in
+pub returns-then-write_short : goal.returns-then-write_short
+returns-then-write_short c =
+    let call = c.write_short.ensures in
+    let is = c.if-write_short.true in
+    let ascii = ascii_written _ _ _ (ascii_below _ (call.pass.0 is)) (call.written is) in
     written_same _ _ _ _ _ c.as_bytes-bytes.ensures.value ascii

@@ -6,18 +6,18 @@ use Rattle.encoding_text.proofs.utf_8.to_utf16.convert_after_ascii.Goals as goal
 
 pub returns-then-ascii-src : goal.returns-then-ascii-src
 returns-then-ascii-src c =
-    let start = converted_first_ascii _ _ _ _ c.copy_to_basic_latin_inline-ascii.ensures.prefix c.copy_to_basic_latin_inline-ascii.ensures.copied in
+    let start = converted_first_ascii _ _ _ _ _ c.unpack_ascii_prefix-ascii.ensures.prefix c.unpack_ascii_prefix-ascii.ensures.copied in
     converts_all encode_utf16 _ _ _ _ _ (omega arith) start
 
-pub returns-then-begins_no_character : goal.returns-then-begins_no_character
-returns-then-begins_no_character c =
-    let start = converted_first_ascii _ _ _ _ c.copy_to_basic_latin_inline-ascii.ensures.prefix c.copy_to_basic_latin_inline-ascii.ensures.copied in
-    let none = rw take_rest at (c.begins_no_character.ensures c.if-begins_no_character.true) in
+pub returns-then-begins_none : goal.returns-then-begins_none
+returns-then-begins_none c =
+    let start = converted_first_ascii _ _ _ _ _ c.unpack_ascii_prefix-ascii.ensures.prefix c.unpack_ascii_prefix-ascii.ensures.copied in
+    let none = rw take_rest at (c.begins_none.ensures c.if-begins_none.true) in
     converts_longest encode_utf16 _ _ _ _ _ (converted_rejected encode_utf16 _ _ _ _ _ start none)
 
 pub overflow_add-result : goal.overflow_add-result
 overflow_add-result c =
-    let ascii = c.copy_to_basic_latin_inline-ascii.result in
+    let ascii = c.unpack_ascii_prefix-ascii.result in
     let rest = drop ascii c.args.src.now in
     let within : c.convert_turns-read.result.0 ≤ length (take (length c.args.src.now - ascii) rest) =
     (converts_prefix encode_utf16 _ _ _ _ _ c.convert_turns-read.ensures).within in
@@ -25,5 +25,5 @@ overflow_add-result c =
 
 pub returns : goal.returns
 returns c =
-    let start = converted_first_ascii _ _ _ _ c.copy_to_basic_latin_inline-ascii.ensures.prefix c.copy_to_basic_latin_inline-ascii.ensures.copied in
+    let start = converted_first_ascii _ _ _ _ _ c.unpack_ascii_prefix-ascii.ensures.prefix c.unpack_ascii_prefix-ascii.ensures.copied in
     converts_rest encode_utf16 _ _ _ _ _ _ _ _ start c.convert_turns-read.ensures

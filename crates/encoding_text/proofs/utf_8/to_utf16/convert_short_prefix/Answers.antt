@@ -5,6 +5,7 @@ use Rattle.std.proofs.lemmas.List.{take_all}
 use Rattle.encoding_definitions.specs.Prefixes.{WritesPrefix}
 use Rattle.std.specs.Char.Escape.{encode_utf16}
 use Rattle.encoding_definitions.specs.Converting.{ConvertsMaximal}
+use Rattle.encoding_kernels.proofs.ScanLemmas.{ascii_below}
 use Rattle.encoding_text.proofs.ConvertingLemmas.{ascii_written, converts_valid}
 use Rattle.encoding_text.proofs.WholePrefixesLemmas.{whole_text}
 use Rattle.encoding_text.proofs.utf_8.to_utf16.convert_short_prefix.Goals as goal
@@ -14,16 +15,16 @@ of_prefix : (src old new : List ℕ) (n written : ℕ) → take n src ≡ src �
     → WritesPrefix old new written (flat_map encode_utf16 (chars (take n src)))
 of_prefix src old new n written all = subst (λ xs. WritesPrefix old new written (flat_map encode_utf16 (chars xs))) (sym all)
 
-pub returns-then-unpack_short : goal.returns-then-unpack_short
-returns-then-unpack_short c =
+pub returns-then-write_short : goal.returns-then-write_short
+returns-then-write_short c =
     let src = c.args.src.now in
-    let ascii = c.unpack_short.ensures.ascii.0 c.if-unpack_short.true in
-    let units = ascii_written _ _ _ ascii (c.unpack_short.ensures.copied c.if-unpack_short.true) in
+    let ascii = ascii_below src (c.write_short.ensures.pass.0 c.if-write_short.true) in
+    let units = ascii_written _ _ _ ascii (c.write_short.ensures.written c.if-write_short.true) in
     converts_valid encode_utf16 _ _ _ _ _ (whole_text src ascii) (of_prefix _ _ _ _ _ (take_all (length src) src (omega arith)) units)
 
-pub returns-then-src-lt-HALF_STRIDE : goal.returns-then-src-lt-HALF_STRIDE
-returns-then-src-lt-HALF_STRIDE c =
-    let same = c.unpack_short.ensures.unchanged c.if-unpack_short.false in
+pub returns-then-src-lt-LEAST_FOR_VECTORS : goal.returns-then-src-lt-LEAST_FOR_VECTORS
+returns-then-src-lt-LEAST_FOR_VECTORS c =
+    let same = c.write_short.ensures.unchanged c.if-write_short.false in
     subst
     (λ old. ConvertsMaximal encode_utf16 c.args.src.now old c.convert_after_ascii.new.dst c.convert_after_ascii.result.0 c.convert_after_ascii.result.1) same
     c.convert_after_ascii.ensures
@@ -31,25 +32,25 @@ returns-then-src-lt-HALF_STRIDE c =
 pub convert_short-requires-clause-text : goal.convert_short-requires-clause-text
 convert_short-requires-clause-text c =
     let src = c.args.src.now in
-    let found = c.short_valid_up_to_beyond_ascii-valid in
+    let found = c.valid_up_to_by_vectors-valid in
     subst IsUtf8 (take_all found.result src (omega arith)) found.ensures.kind
 
 pub returns-then-valid-src : goal.returns-then-valid-src
 returns-then-valid-src c =
     let src = c.args.src.now in
-    let found = c.short_valid_up_to_beyond_ascii-valid in
-    let same = c.unpack_short.ensures.unchanged c.if-unpack_short.false in
+    let found = c.valid_up_to_by_vectors-valid in
+    let same = c.write_short.ensures.unchanged c.if-write_short.false in
     let units = of_prefix _ _ _ _ _ (take_all found.result src (omega arith)) c.convert_short.ensures in
     subst (λ old. ConvertsMaximal encode_utf16 src old c.convert_short.new.dst found.result c.convert_short.result) same
     (converts_valid encode_utf16 _ _ _ _ _ found.ensures units)
 
 pub convert_short_text-requires-clause-text : goal.convert_short_text-requires-clause-text
-convert_short_text-requires-clause-text c = c.short_valid_up_to_beyond_ascii-valid.ensures.kind
+convert_short_text-requires-clause-text c = c.valid_up_to_by_vectors-valid.ensures.kind
 
 pub returns : goal.returns
 returns c =
-    let same = c.unpack_short.ensures.unchanged c.if-unpack_short.false in
-    let all = converts_valid encode_utf16 _ _ _ _ _ c.short_valid_up_to_beyond_ascii-valid.ensures c.convert_short_text.ensures in
+    let same = c.write_short.ensures.unchanged c.if-write_short.false in
+    let all = converts_valid encode_utf16 _ _ _ _ _ c.valid_up_to_by_vectors-valid.ensures c.convert_short_text.ensures in
     subst
-    (λ old. ConvertsMaximal encode_utf16 c.args.src.now old c.convert_short_text.new.dst c.short_valid_up_to_beyond_ascii-valid.result
+    (λ old. ConvertsMaximal encode_utf16 c.args.src.now old c.convert_short_text.new.dst c.valid_up_to_by_vectors-valid.result
     c.convert_short_text.result) same all

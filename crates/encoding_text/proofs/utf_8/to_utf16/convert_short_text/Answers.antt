@@ -1,7 +1,7 @@
-use Rattle.std.proofs.Common.{}
+use Rattle.encoding_kernels.proofs.ScanLemmas.{ascii_below}
 use Rattle.encoding_text.proofs.ConvertingLemmas.{ascii_written}
 use Rattle.encoding_text.proofs.utf_8.to_utf16.convert_short_text.Goals as goal
 
-pub returns-then-unpack_short : goal.returns-then-unpack_short
-returns-then-unpack_short c =
-    ascii_written _ _ _ (c.unpack_short.ensures.ascii.0 c.if-unpack_short.true) (c.unpack_short.ensures.copied c.if-unpack_short.true)
+pub returns-then-write_short : goal.returns-then-write_short
+returns-then-write_short c =
+    ascii_written _ _ _ (ascii_below _ (c.write_short.ensures.pass.0 c.if-write_short.true)) (c.write_short.ensures.written c.if-write_short.true)

@@ -8,6 +8,7 @@ use Rattle.encoding_definitions.specs.Prefixes.{IsLongestPrefix, WritesPrefix}
 use Rattle.encoding_text.specs.Steps.{ConvertsSome}
 use Rattle.encoding_text.proofs.ConvertingLemmas.{converted_ascii, converted_more, converted_rejected, converted_text, converted_unfit, converts_longest}
 use Rattle.encoding_text.proofs.utf_8.to_utf16.convert_turns.Goals as goal
+use Rattle.encoding_text.proofs.utf_8.to_utf16.convert_turns.Goals.{then-read-src+then-src-read-lt-ASCII_END, else-read-src}
 
 -- a piece of what is left, and the text at its start, are sliced
 text_after : (src old new sub : List ℕ) (read written room valid units : ℕ) → ConvertsSome encode_utf16 src old new read written
@@ -24,16 +25,22 @@ text_after src old new sub read written room valid units d f w =
 
 pub decode_utf8_scalar-scalar-requires : goal.decode_utf8_scalar-scalar-requires
 decode_utf8_scalar-scalar-requires c =
-    let at = c.loop-length.read + c.copy_to_basic_latin-ascii.result + c.utf8_valid_up_to-valid.result in
+    let at = c.if-read-src.read + c.utf8_valid_up_to-valid.result in
     let found = rw take_rest at c.in-Some.ensures.length in
     let size : at + c.in-Some.length - at ≡ c.in-Some.length = omega arith in
     record { sequence = rw size found.2 }
 
-pub loop-length-preserved : goal.loop-length-preserved
-loop-length-preserved c =
-    let ascii = converted_ascii _ _ _ _ _ _ _ c.loop-length.invariant c.copy_to_basic_latin-ascii.ensures.prefix c.copy_to_basic_latin-ascii.ensures.copied in
+pub loop-read-preserved : goal.loop-read-preserved
+loop-read-preserved c =
+    let ascii : ConvertsSome encode_utf16 c.args.src.now c.args.dst.now c.if-read-src.dst c.if-read-src.read c.if-read-src.written =
+    elim c.if-read-src.branch [
+      | then-read-src+then-src-read-lt-ASCII_END w ↦
+          rw (w.dst-is, w.read-is, w.written-is)
+          (converted_ascii _ _ _ _ _ _ _ c.loop-read.invariant w.copy_to_basic_latin-ascii.ensures.prefix w.copy_to_basic_latin-ascii.ensures.copied)
+      | else-read-src w ↦ rw (w.dst-is, w.read-is, w.written-is) c.loop-read.invariant
+    ] in
     let text = text_after _ _ _ _ _ _ _ _ _ ascii c.utf8_valid_up_to-valid.ensures c.convert_text-written.ensures in
-    let at = c.loop-length.read + c.copy_to_basic_latin-ascii.result + c.utf8_valid_up_to-valid.result in
+    let at = c.if-read-src.read + c.utf8_valid_up_to-valid.result in
     let found = rw take_rest at c.in-Some.ensures.length in
     let size : at + c.in-Some.length - at ≡ c.in-Some.length = omega arith in
     let s = c.decode_utf8_scalar-scalar.ensures in
@@ -41,9 +48,15 @@ loop-length-preserved c =
 
 pub returns-in_default-write_utf16 : goal.returns-in_default-write_utf16
 returns-in_default-write_utf16 c =
-    let ascii = converted_ascii _ _ _ _ _ _ _ c.loop-length.invariant c.copy_to_basic_latin-ascii.ensures.prefix c.copy_to_basic_latin-ascii.ensures.copied in
+    let ascii : ConvertsSome encode_utf16 c.args.src.now c.args.dst.now c.if-read-src.dst c.if-read-src.read c.if-read-src.written =
+    elim c.if-read-src.branch [
+      | then-read-src+then-src-read-lt-ASCII_END w ↦
+          rw (w.dst-is, w.read-is, w.written-is)
+          (converted_ascii _ _ _ _ _ _ _ c.loop-read.invariant w.copy_to_basic_latin-ascii.ensures.prefix w.copy_to_basic_latin-ascii.ensures.copied)
+      | else-read-src w ↦ rw (w.dst-is, w.read-is, w.written-is) c.loop-read.invariant
+    ] in
     let text = text_after _ _ _ _ _ _ _ _ _ ascii c.utf8_valid_up_to-valid.ensures c.convert_text-written.ensures in
-    let at = c.loop-length.read + c.copy_to_basic_latin-ascii.result + c.utf8_valid_up_to-valid.result in
+    let at = c.if-read-src.read + c.utf8_valid_up_to-valid.result in
     let size : at + c.in-Some.length - at ≡ c.in-Some.length = omega arith in
     let s = c.decode_utf8_scalar-scalar.ensures in
     let unfit = c.in_default-write_utf16.ensures.unfit in
@@ -51,6 +64,12 @@ returns-in_default-write_utf16 c =
 
 pub returns-in_default : goal.returns-in_default
 returns-in_default c =
-    let ascii = converted_ascii _ _ _ _ _ _ _ c.loop-length.invariant c.copy_to_basic_latin-ascii.ensures.prefix c.copy_to_basic_latin-ascii.ensures.copied in
+    let ascii : ConvertsSome encode_utf16 c.args.src.now c.args.dst.now c.if-read-src.dst c.if-read-src.read c.if-read-src.written =
+    elim c.if-read-src.branch [
+      | then-read-src+then-src-read-lt-ASCII_END w ↦
+          rw (w.dst-is, w.read-is, w.written-is)
+          (converted_ascii _ _ _ _ _ _ _ c.loop-read.invariant w.copy_to_basic_latin-ascii.ensures.prefix w.copy_to_basic_latin-ascii.ensures.copied)
+      | else-read-src w ↦ rw (w.dst-is, w.read-is, w.written-is) c.loop-read.invariant
+    ] in
     let text = text_after _ _ _ _ _ _ _ _ _ ascii c.utf8_valid_up_to-valid.ensures c.convert_text-written.ensures in
     converts_longest encode_utf16 _ _ _ _ _ (converted_rejected encode_utf16 _ _ _ _ _ text (rw take_rest at c.in_default.ensures.no_character))

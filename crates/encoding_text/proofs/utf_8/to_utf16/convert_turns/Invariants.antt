@@ -3,8 +3,8 @@ use Rattle.std.specs.Char.Escape.{encode_utf16}
 use Rattle.encoding_text.specs.Steps.{ConvertsSome}
 use Rattle.encoding_text.proofs.utf_8.to_utf16.convert_turns.Given as goal
 
-abbrev pub invariant-loop-length : goal.invariant-loop-length
-invariant-loop-length l = ConvertsSome encode_utf16 l.src l.fn.dst l.dst l.read l.written
+abbrev pub invariant-loop-read : goal.invariant-loop-read
+invariant-loop-read l = ConvertsSome encode_utf16 l.src l.fn.dst l.dst l.read l.written
 
-abbrev pub decreases-loop-length : goal.decreases-loop-length
-decreases-loop-length l = length l.initial.src - l.read
+abbrev pub decreases-loop-read : goal.decreases-loop-read
+decreases-loop-read l = length l.initial.src - l.read

@@ -1,0 +1,113 @@
+//! Blocks of code units that are below U+0800 or halves of a surrogate pair, which have two bytes each in UTF-8.
+
+ghost use Rattle.std.specs.Prelude.{◌≡◌, ℕ, ◌+◌, ◌*◌, ◌<◌, ◌≤◌, ◌++◌, length, take, drop, slice_index, IsTrue, nat_le, map, ◌⊎◌};
+ghost use Rattle.std.specs.Simd.Lanes.{mask_l};
+ghost use Rattle.encoding_definitions.specs.Utf16.{IsHighSurrogate};
+ghost use Rattle.encoding_kernels.specs.SurrogatePairs.{AreTwoByteOrPaired, IsTwoByteOrHalf, EncodesHalf, half_bytes, concatenated, halves_from};
+
+use crate::scalar::{is_high_surrogate, is_low_surrogate};
+use crate::simd::compress::{keep_pairs, write_both};
+use std::simd::prelude::*;
+
+/// Returns whether each of the sixteen code units from `at` on is below U+0800 or a half of a pair. The last pair may
+/// be cut.
+#[inline(always)]
+pub(super) fn are_two_byte_or_paired(src: &[u16], at: usize) -> bool
+    requires { at + 17 ≤ length src.now }
+    ensures { IsTrue result → AreTwoByteOrPaired src.now at 16 }
+{
+    if is_low_surrogate(src[at]) {
+        return false;
+    }
+    let units = u16x16::from_slice(&src[at..]);
+    let next = u16x16::from_slice(&src[at + 1..]);
+    let high = (units & u16x16::splat(0xFC00)).simd_eq(u16x16::splat(0xD800));
+    let low = (next & u16x16::splat(0xFC00)).simd_eq(u16x16::splat(0xDC00));
+    let halves = (units & u16x16::splat(0xF800)).simd_eq(u16x16::splat(0xD800));
+    let faults = (high ^ low) | (units.simd_ge(u16x16::splat(0x800)) ^ halves);
+    !faults.any()
+}
+
+/// Returns two bytes for each of eight code units, which follow the units in `before`. A unit of one byte has an
+/// arbitrary second one.
+#[inline(always)]
+fn bytes_of_halves(units: u16x8, before: u16x8) -> u8x16
+    requires { (k : ℕ) → k < 8 → IsTwoByteOrHalf (slice_index units k) }
+    ensures lane_count { length result ≡ 16 }
+    ensures bytes { (k : ℕ) → k < 8 → EncodesHalf (slice_index before k) (slice_index units k)
+        (slice_index result (2 * k)) (slice_index result (2 * k + 1)) }
+{
+    let six = u16x8::splat(0x3F);
+    let last = (units & six) << u16x8::splat(8);
+    let upper = units >> u16x8::splat(6);
+    let short = upper + last + u16x8::splat(0x80C0);
+    let lead = units + u16x8::splat(0x40);
+    let second = ((lead >> u16x8::splat(2)) & six) << u16x8::splat(8);
+    let high = (lead >> u16x8::splat(8)) + second + u16x8::splat(0x8018);
+    let third = ((before & u16x8::splat(3)) << u16x8::splat(4)) + (upper & u16x8::splat(0xF));
+    let low = third + last + u16x8::splat(0x8080);
+    let half = units.simd_ge(u16x8::splat(0xDC00)).select(low, high);
+    let several = units.simd_ge(u16x8::splat(0x800)).select(half, short);
+    let all = units.simd_ge(u16x8::splat(0x80)).select(several, units);
+    all.to_le_bytes()
+}
+
+/// Returns the mask of the code units that aren't ASCII.
+#[inline(always)]
+fn mask_beyond_ascii(units: u16x8) -> usize
+    ensures upper_bound { result < 256 }
+    ensures mask { result ≡ mask_l (map (nat_le 0x80) units) }
+{
+    units.simd_ge(u16x8::splat(0x80)).to_bitmask() as usize
+}
+
+/// Returns the UTF-8 of eight code units, which follow the units in `before`, at the start of the vector, and its
+/// length.
+#[inline(always)]
+fn encode_halves(units: u16x8, before: u16x8) -> (u8x16, usize)
+    requires { (k : ℕ) → k < 8 → IsTwoByteOrHalf (slice_index units k) }
+    ensures lane_count { length result.0 ≡ 16 }
+    ensures out_length { (8 ≤ result.1) × (result.1 ≤ 16) }
+    ensures spelled { take result.1 result.0
+        ≡ concatenated (λ k. half_bytes (slice_index before k) (slice_index units k)) 0 8 }
+{
+    keep_pairs(bytes_of_halves(units, before), mask_beyond_ascii(units))
+}
+
+/// Returns 1 if the code unit at `at` is a high surrogate, and else 0.
+#[inline(always)]
+fn cut_halves(src: &[u16], at: usize) -> usize
+    requires { at < length src.now }
+    ensures { ((result ≡ 1) × IsHighSurrogate (slice_index src.now at))
+        ⊎ ((result ≡ 0) × (IsHighSurrogate (slice_index src.now at) → ⊥)) }
+{
+    if is_high_surrogate(src[at]) { 1 } else { 0 }
+}
+
+/// Writes the UTF-8 of sixteen code units below U+0800 or in pairs, or of fifteen if the last is a high surrogate.
+/// Returns how many code units and how many bytes these are. The rest of `dst` is unchanged.
+#[inline(always)]
+pub(super) fn write_two_byte_or_paired(
+    src: &[u16],
+    at: usize,
+    dst: &mut [u8],
+    to: usize,
+) -> (usize, usize)
+    requires dst_length { (at + 16 ≤ length src.now) × (to + 32 ≤ length dst.old) }
+    requires paired { AreTwoByteOrPaired src.now at 16 }
+    ensures units { ((result.0 ≡ 15) × IsHighSurrogate (slice_index src.now (at + 15)))
+        ⊎ ((result.0 ≡ 16) × (IsHighSurrogate (slice_index src.now (at + 15)) → ⊥)) }
+    ensures out_length { result.1 ≡ length (halves_from src.now at result.0) }
+    ensures length_bound { result.1 ≤ 32 }
+    ensures written { dst.new ≡ take to dst.old
+        ++ (halves_from src.now at result.0 ++ drop (to + result.1) dst.old) }
+{
+    let first = u16x8::from_slice(&src[at..]);
+    let second = u16x8::from_slice(&src[at + 8..]);
+    let (bytes, count) = encode_halves(first, first.swizzle([0, 0, 1, 2, 3, 4, 5, 6]));
+    let (other, more) = encode_halves(second, u16x8::from_slice(&src[at + 7..]));
+    let cut = cut_halves(src, at + 15);
+    let rest = more - 2 * cut;
+    write_both(dst, to, bytes, count, other, rest);
+    (16 - cut, count + rest)
+}

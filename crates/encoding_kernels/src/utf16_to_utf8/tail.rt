@@ -1,0 +1,109 @@
+//! Code units that no block takes: those at the end of a text or before a surrogate, and single characters. Nothing after
+//! the bytes that are written changes.
+
+ghost use Rattle.std.specs.Prelude.{◌≡◌, ◌+◌, ◌<◌, ◌≤◌, length, take, drop};
+ghost use Rattle.encoding_definitions.specs.Prefixes.{WritesPrefix};
+ghost use Rattle.encoding_definitions.specs.Utf16.{IsUtf8OfPrefix};
+ghost use Rattle.encoding_kernels.specs.Utf8Output.{ConvertsPrefix, WritesBmp};
+ghost use Rattle.encoding_definitions.specs.FirstScalar.{IsFirstScalar};
+
+use super::mixed::{SPILL, non_surrogate_prefix, store_mixed, with_zeros, write_mixed};
+use crate::scalar::{
+    REPLACEMENT_CHARACTER, is_high_surrogate, is_low_surrogate, is_surrogate, pair_scalar,
+    utf16_length, write_scalar,
+};
+use crate::simd::copy::copy_prefix;
+use crate::simd::width::STRIDE;
+use std::simd::prelude::*;
+
+/// The number of bytes that sixteen code units may change, with those that are written back.
+const ROOM: usize = 80;
+
+/// Returns the scalar value that is written for the first part of the code units from index `at` on.
+#[inline(always)]
+pub fn scalar_at(src: &[u16], at: usize) -> u32
+    requires { at < length src.now }
+    ensures { IsFirstScalar (drop at src.now) result }
+{
+    let unit = src[at];
+    if !is_surrogate(unit) {
+        return u32::from(unit);
+    }
+    if is_high_surrogate(unit) && at + 1 < src.len() {
+        let next = src[at + 1];
+        if is_low_surrogate(next) {
+            return pair_scalar(unit, next);
+        }
+    }
+    REPLACEMENT_CHARACTER
+}
+
+/// Returns the first sixteen code units, followed by zeros if there are fewer.
+#[inline(always)]
+fn first_units(src: &[u16]) -> u16x16
+    ensures { (length result ≡ 16) × (take (length (take 16 src.now)) result ≡ take 16 src.now) }
+{
+    if src.len() >= STRIDE {
+        return u16x16::from_slice(src);
+    }
+    let mut units = [0; STRIDE];
+    units[..src.len()].copy_from_slice(src);
+    u16x16::from_array(units)
+}
+
+/// Converts those of the first sixteen code units that precede a surrogate, if they fit. Near the end of `dst` they are
+/// converted apart from it, so that nothing else is stored there.
+#[tactic(auto, using(crate::proofs::Utf16ToUtf8Lemmas::writes_none))]
+#[inline(always)]
+pub(super) fn convert_first_sixteen(src: &[u16], dst: &mut [u8]) -> (usize, usize)
+    ensures written { WritesBmp src.now dst.old dst.new result.0 result.1 }
+    ensures length_bound { result.0 ≤ result.1 }
+{
+    let units = first_units(src);
+    let first = non_surrogate_prefix(units).min(src.len());
+    let lanes = with_zeros(units, first);
+    if dst.len() >= ROOM {
+        return (first, write_mixed(lanes, STRIDE - first, dst));
+    }
+    let mut bytes = [0; 64];
+    let stored = store_mixed(lanes, &mut bytes, 0);
+    let written = stored - (STRIDE - first);
+    if written > dst.len() {
+        return (0, 0);
+    }
+    copy_prefix(&bytes[..written], dst);
+    (first, written)
+}
+
+/// Converts those of the first sixteen code units that precede a surrogate, or the first character alone.
+#[inline(always)]
+fn convert_some(src: &[u16], dst: &mut [u8]) -> (usize, usize)
+    requires { (0 < length src.now) × (4 ≤ length dst.old) }
+    ensures prefix { IsUtf8OfPrefix src.now result.0 (take result.1 dst.new) }
+    ensures unchanged_after { WritesPrefix dst.old dst.new result.1 (take result.1 dst.new) }
+    ensures within { result.0 ≤ length src.now }
+    ensures progress { (0 < result.0) × (result.0 ≤ result.1) }
+{
+    let (first, written) = convert_first_sixteen(src, dst);
+    if first > 0 {
+        return (first, written);
+    }
+    let scalar = scalar_at(src, 0);
+    (utf16_length(scalar), write_scalar(scalar, dst))
+}
+
+/// Converts the first characters of `src`, until at least sixteen bytes are written.
+pub(super) fn convert_spilled(src: &[u16], dst: &mut [u8]) -> (usize, usize)
+    requires { (16 ≤ length src.now) × (48 ≤ length dst.old) }
+    ensures converted { ConvertsPrefix src.now dst.old dst.new result.0 result.1 }
+    ensures length_bound { 16 ≤ result.1 }
+{
+    let mut read = 0;
+    let mut written = 0;
+    while written < SPILL {
+        let (units, bytes) = convert_some(&src[read..], &mut dst[written..]);
+        read += units;
+        written += bytes;
+    }
+    (read, written)
+}

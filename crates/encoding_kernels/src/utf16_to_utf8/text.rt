@@ -1,0 +1,185 @@
+//! UTF-8 of code units by blocks of sixteen: the calls for a whole text, and the loops over runs of one kind of blocks. A
+//! conversion of blocks returns how many code units it read and how many bytes it wrote.
+
+ghost use Rattle.std.specs.Prelude.{◌↔◌, ◌+◌, ◌*◌, ◌<◌, ◌≤◌, length, take, IsTrue};
+ghost use Rattle.encoding_definitions.specs.Prefixes.{WritesPrefix};
+ghost use Rattle.encoding_definitions.specs.Utf16.{IsUtf8OfPrefix};
+ghost use Rattle.encoding_kernels.specs.Utf8Output.{ConvertsDue, ConvertsPrefix};
+
+use super::kinds::{Ascii, Mixed, ThreeByte, TwoByte, convert_run};
+use super::mixed::SPILL;
+use super::pairs::{are_two_byte_or_paired, write_two_byte_or_paired};
+use super::tail::{convert_first_sixteen, convert_spilled};
+use crate::scalar::is_surrogate;
+use crate::simd::scan::are_units_below;
+use crate::simd::width::{BASIC_LATIN_END, HALF_STRIDE, STRIDE};
+use crate::tuning::{ASCII_RUN, MIXED_RUN, TWO_BYTE_RUN};
+
+/// Converts blocks from the start of `src`, until many in a row are ASCII or have three bytes for each unit, or one has
+/// a surrogate, or the end is near. `due` and the last number returned are as for `convert_run`.
+#[inline(always)]
+fn convert_any_blocks(src: &[u16], dst: &mut [u8], due: usize) -> (usize, usize, usize)
+    requires dst_length { 3 * length src.now ≤ length dst.old }
+    requires due { (due ≤ 16) × (0 < due → 16 ≤ length src.now) }
+    ensures { ConvertsDue src.now dst.old dst.new due result.0 result.1 result.2 }
+{
+    let mut read = 0;
+    let mut written = 0;
+    let mut spilled = due;
+    while src.len() - read >= STRIDE + SPILL {
+        let (units, bytes, left) = convert_run(
+            &Ascii,
+            &src[read..],
+            &mut dst[written..],
+            spilled,
+            ASCII_RUN,
+        );
+        read += units;
+        written += bytes;
+        spilled = left;
+        if units == ASCII_RUN {
+            break;
+        }
+        let (units, bytes, left) = convert_run(
+            &TwoByte,
+            &src[read..],
+            &mut dst[written..],
+            spilled,
+            TWO_BYTE_RUN,
+        );
+        read += units;
+        written += bytes;
+        spilled = left;
+        if units == 0 {
+            let (units, bytes, left) = convert_run(
+                &Mixed,
+                &src[read..],
+                &mut dst[written..],
+                spilled,
+                MIXED_RUN,
+            );
+            read += units;
+            written += bytes;
+            spilled = left;
+            if units == 0 || bytes == 3 * MIXED_RUN {
+                break;
+            }
+        }
+    }
+    (read, written, spilled)
+}
+
+/// Converts blocks of code units from U+0800 on from the start of `src`.
+#[inline(never)]
+fn convert_three_byte_blocks(src: &[u16], dst: &mut [u8], due: usize) -> (usize, usize, usize)
+    requires dst_length { 3 * length src.now ≤ length dst.old }
+    requires due { (due ≤ 16) × (0 < due → 16 ≤ length src.now) }
+    ensures { ConvertsDue src.now dst.old dst.new due result.0 result.1 result.2 }
+{
+    convert_run(&ThreeByte, src, dst, due, src.len())
+}
+
+/// Converts blocks from the start of `src`, until many in a row are ASCII, or one has a surrogate, or the end is near.
+/// Also returns how many bytes after its own are still to be overwritten.
+#[inline(always)]
+fn convert_due_blocks(src: &[u16], dst: &mut [u8]) -> (usize, usize, usize)
+    requires dst_length { 3 * length src.now ≤ length dst.old }
+    ensures { ConvertsDue src.now dst.old dst.new 0 result.0 result.1 result.2 }
+{
+    let mut read = 0;
+    let mut written = 0;
+    let mut spilled = 0;
+    while src.len() - read >= STRIDE + SPILL {
+        let (units, bytes, left) = convert_any_blocks(&src[read..], &mut dst[written..], spilled);
+        read += units;
+        written += bytes;
+        spilled = left;
+        if spilled == 0 {
+            break;
+        }
+        let (units, bytes, left) = convert_three_byte_blocks(
+            &src[read..],
+            &mut dst[written..],
+            spilled,
+        );
+        read += units;
+        written += bytes;
+        spilled = left;
+        if units == 0 {
+            break;
+        }
+    }
+    (read, written, spilled)
+}
+
+/// Converts blocks of sixteen code units from the start of `src`, and what these leave to overwrite.
+#[inline(always)]
+fn convert_dense_blocks(src: &[u16], dst: &mut [u8]) -> (usize, usize)
+    ensures { ConvertsPrefix src.now dst.old dst.new result.0 result.1 }
+{
+    let end = src.len().min(dst.len() / 3);
+    let (read, written, spilled) = convert_due_blocks(&src[..end], dst);
+    if spilled == 0 {
+        return (read, written);
+    }
+    let (more, extra) = convert_spilled(&src[read..], &mut dst[written..]);
+    (read + more, written + extra)
+}
+
+/// Returns whether a block may begin with the code unit: it is neither ASCII nor a surrogate.
+#[inline(always)]
+fn begins_block(unit: u16) -> bool
+    ensures { IsTrue result ↔ ((0x80 ≤ unit) × ((0xD800 ≤ unit) × (unit ≤ 0xDFFF) → ⊥)) }
+{
+    unit >= BASIC_LATIN_END && !is_surrogate(unit)
+}
+
+/// Converts blocks of code units from the start of `src`, until ASCII or a surrogate is next. The last 31 units may
+/// be ASCII. Returns how many code units it read and how many bytes it wrote. The rest of `dst` is unchanged.
+pub fn convert_blocks(src: &[u16], dst: &mut [u8]) -> (usize, usize)
+    ensures prefix { IsUtf8OfPrefix src.now result.0 (take result.1 dst.new) }
+    ensures unchanged_after { WritesPrefix dst.old dst.new result.1 (take result.1 dst.new) }
+    ensures within { result.0 ≤ length src.now }
+{
+    let mut read = 0;
+    let mut written = 0;
+    while src.len() - read >= HALF_STRIDE
+        && (src.len() - read < STRIDE + SPILL || begins_block(src[read]))
+    {
+        let (dense, many) = convert_dense_blocks(&src[read..], &mut dst[written..]);
+        read += dense;
+        written += many;
+        if src.len() - read >= STRIDE + SPILL && !begins_block(src[read]) {
+            break;
+        }
+        let (first, some) = convert_first_sixteen(&src[read..], &mut dst[written..]);
+        read += first;
+        written += some;
+        if first == 0 {
+            break;
+        }
+    }
+    (read, written)
+}
+
+/// Converts blocks of code units from the start of `src` while they have surrogate pairs and their other units are
+/// below U+0800. Returns how many code units it read and how many bytes it wrote. The rest of `dst` is unchanged.
+#[inline(never)]
+pub fn convert_paired_blocks(src: &[u16], dst: &mut [u8]) -> (usize, usize)
+    ensures prefix { IsUtf8OfPrefix src.now result.0 (take result.1 dst.new) }
+    ensures unchanged_after { WritesPrefix dst.old dst.new result.1 (take result.1 dst.new) }
+    ensures within { result.0 ≤ length src.now }
+{
+    let mut read = 0;
+    let mut written = 0;
+    while src.len() - read > STRIDE
+        && dst.len() - written >= 32
+        && !are_units_below::<16>(src, read, 0x800)
+        && are_two_byte_or_paired(src, read)
+    {
+        let (units, bytes) = write_two_byte_or_paired(src, read, dst, written);
+        read += units;
+        written += bytes;
+    }
+    (read, written)
+}

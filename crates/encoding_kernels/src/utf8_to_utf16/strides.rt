@@ -1,0 +1,157 @@
+//! UTF-16 of strides of sixteen bytes. Each is at an index that doesn't depend on the text, so no stride waits for the end of a
+//! character in the one before it.
+//!
+//! In a text of 19 to 128 bytes the last stride ends with the text and may overlap the one before it. So only the length decides
+//! how often their loop iterates, and no single byte is left. A shorter text is one block, which zeros follow, after a character
+//! or two if it has 17 or 18 bytes. Fewer than eight bytes are converted by characters.
+
+ghost use Rattle.std.specs.Prelude.{◌≡◌, ◌+◌, ◌-◌, ◌<◌, ◌≤◌, ◌∷◌, length, take, drop, slice_index};
+ghost use Rattle.std.specs.List.{flat_map};
+ghost use Rattle.std.specs.Char.Escape.{encode_utf16};
+ghost use Rattle.std.specs.Str.{IsUtf8, chars};
+ghost use Rattle.encoding_definitions.specs.Prefixes.{WritesPrefix};
+ghost use Rattle.encoding_kernels.specs.Scans.{BelowUpTo, HasLanes};
+ghost use Rattle.encoding_kernels.specs.EndingUnits.{WritesCompressed, WritesUtf16, units_after, units_in, ends_after};
+
+use crate::simd::copy::{one_before, three_before, two_before, with_zeros};
+use crate::simd::width::{HALF_STRIDE, STRIDE};
+use crate::utf8_to_utf16::block::{FOUR_BYTES, whole_end, write_character};
+use crate::utf8_to_utf16::code_units::{
+    ends_of_stride, is_below, kept_between, units_of_stride, write_kept,
+};
+use std::simd::prelude::*;
+
+/// The least length of a text that is written by strides: three bytes precede its last one.
+pub(super) const STRIDE_AND_BEFORE: usize = STRIDE + 3;
+
+/// Returns the bytes three, two and one before each of the sixteen from `at` on. If BEFORE is 0, these are the first of the text,
+/// and zeros precede it.
+#[inline(always)]
+fn bytes_before<const BEFORE: usize>(src: &[u8], at: usize) -> (u8x16, u8x16, u8x16)
+    requires { (BEFORE ≤ at) × (BEFORE < 3 → at ≡ 0) × (at + 16 ≤ length src.now) }
+    ensures three { HasLanes 16 result.0 (λ k. slice_index (0 ∷ 0 ∷ 0 ∷ src.now) (at + k)) }
+    ensures two { HasLanes 16 result.1 (λ k. slice_index (0 ∷ 0 ∷ src.now) (at + k)) }
+    ensures one { HasLanes 16 result.2 (λ k. slice_index (0 ∷ src.now) (at + k)) }
+{
+    if BEFORE < 3 {
+        let block = u8x16::from_slice(src);
+        return (three_before(block), two_before(block), one_before(block));
+    }
+    let three = u8x16::from_slice(&src[at - 3..]);
+    let two = u8x16::from_slice(&src[at - 2..]);
+    let one = u8x16::from_slice(&src[at - 1..]);
+    (three, two, one)
+}
+
+/// Writes the code units that end with the bytes from `from` up to `to` of the sixteen from `at` on, if no character has more
+/// than N bytes, and returns their number. BEFORE is 0 for the first sixteen bytes of the text, and 3 for others. Up to SPARE
+/// units after them may change: eight, or none.
+#[inline(always)]
+pub(super) fn write_stride<const N: usize, const BEFORE: usize, const SPARE: usize>(
+    src: &[u8],
+    at: usize,
+    from: usize,
+    to: usize,
+    dst: &mut [u16],
+) -> usize
+    requires before { (BEFORE ≤ at) × (BEFORE < 3 → at ≡ 0) }
+    requires within { at + 16 ≤ length src.now }
+    requires part { (from ≤ to) × (to ≤ 16) }
+    requires dst_length { 16 ≤ length dst.old }
+    requires short { N < 4 → BelowUpTo 0xF0 src.now (at + 16) }
+    ensures { WritesCompressed (take (to - from) (drop (at + from) (ends_after 0 src.now)))
+        (take (to - from) (drop (at + from) (units_after 0 0 0 src.now))) dst.old dst.new result
+        (result + SPARE) }
+{
+    let (three, two, one) = bytes_before::<BEFORE>(src, at);
+    let (first, last) = units_of_stride::<N>(src, at, three, two, one);
+    let kept = kept_between(ends_of_stride(src, at, one), from, to);
+    write_kept::<SPARE>(first, last, kept, dst)
+}
+
+/// Writes the same code units and no others, even if `dst` has fewer than sixteen units.
+#[inline(always)]
+fn write_in_any_room<const N: usize, const BEFORE: usize>(
+    src: &[u8],
+    at: usize,
+    from: usize,
+    to: usize,
+    dst: &mut [u16],
+) -> usize
+    requires before { (BEFORE ≤ at) × (BEFORE < 3 → at ≡ 0) }
+    requires within { at + 16 ≤ length src.now }
+    requires part { (from ≤ to) × (to ≤ 16) }
+    requires dst_length { to - from ≤ length dst.old }
+    requires short { N < 4 → BelowUpTo 0xF0 src.now (at + 16) }
+    ensures { WritesCompressed (take (to - from) (drop (at + from) (ends_after 0 src.now)))
+        (take (to - from) (drop (at + from) (units_after 0 0 0 src.now))) dst.old dst.new result
+        result }
+{
+    if dst.len() >= STRIDE {
+        return write_stride::<N, BEFORE, 0>(src, at, from, to, dst);
+    }
+    let mut units = [0; STRIDE];
+    let count = write_stride::<N, BEFORE, 0>(src, at, from, to, &mut units);
+    dst[..count].copy_from_slice(&units[..count]);
+    count
+}
+
+/// Writes the UTF-16 of a text of at least 19 bytes, if no character has more than N, and returns its length in code units. The
+/// rest of `dst` is unchanged.
+#[inline(never)]
+pub(super) fn write_strides<const N: usize>(src: &[u8], dst: &mut [u16]) -> usize
+    requires dst_length { (19 ≤ length src.now) × (length src.now ≤ length dst.old) }
+    requires text { IsUtf8 src.now }
+    requires short { N < 4 → BelowUpTo 0xF0 src.now (length src.now) }
+    ensures { WritesPrefix dst.old dst.new result (flat_map encode_utf16 (chars src.now)) }
+{
+    let mut written = write_stride::<N, 0, 0>(src, 0, 0, STRIDE, dst);
+    let mut at = STRIDE;
+    while src.len() - at >= STRIDE {
+        written += write_stride::<N, 3, 0>(src, at, 0, STRIDE, &mut dst[written..]);
+        at += STRIDE;
+    }
+    if at == src.len() {
+        return written;
+    }
+    let last = src.len() - STRIDE;
+    written + write_in_any_room::<N, 3>(src, last, at - last, STRIDE, &mut dst[written..])
+}
+
+/// Writes the UTF-16 of a text of at most 18 bytes, and returns its length in code units. The rest of `dst` is unchanged.
+#[inline(never)]
+pub(super) fn write_tail(src: &[u8], dst: &mut [u16]) -> usize
+    requires dst_length { (length src.now ≤ 18) × (length src.now ≤ length dst.old) }
+    requires text { IsUtf8 src.now }
+    ensures { WritesPrefix dst.old dst.new result (flat_map encode_utf16 (chars src.now)) }
+{
+    let mut read = 0;
+    let mut written = 0;
+    while !matches!(src.len() - read, HALF_STRIDE..=STRIDE) {
+        if read == src.len() {
+            return written;
+        }
+        let (bytes, units) = write_character(&src[read..], &mut dst[written..]);
+        read += bytes;
+        written += units;
+    }
+    let lanes = with_zeros(&src[read..]);
+    let (block, rest) = (lanes.to_array(), src.len() - read);
+    if is_below(lanes, FOUR_BYTES) {
+        return written + write_in_any_room::<3, 0>(&block, 0, 0, rest, &mut dst[written..]);
+    }
+    written + write_in_any_room::<4, 0>(&block, 0, 0, rest, &mut dst[written..])
+}
+
+/// Writes the UTF-16 of the characters in the first sixteen bytes, and returns how many bytes it read and how many code units it
+/// wrote. Units that the rest of the text overwrites may have changed too. Out of line, since few texts need it.
+#[inline(never)]
+pub(super) fn write_block(src: &[u8], dst: &mut [u16]) -> (usize, usize)
+    requires dst_length { (40 ≤ length src.now) × (length src.now ≤ length dst.old) }
+    requires text { IsUtf8 src.now }
+    ensures progress { (0 < result.0) × (result.0 ≤ 16) }
+    ensures written { WritesUtf16 src.now dst.old dst.new result.0 result.1 (units_in src.now) }
+{
+    let end = whole_end::<STRIDE, 4>(src);
+    (end, write_stride::<4, 0, 8>(src, 0, 0, end, dst))
+}

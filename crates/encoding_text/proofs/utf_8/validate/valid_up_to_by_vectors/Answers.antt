@@ -1,0 +1,27 @@
+use Rattle.std.proofs.Common.{}
+use Rattle.std.proofs.lemmas.List.{take_rest}
+use Rattle.std.proofs.lemmas.Str.{IsUtf8-from_ascii}
+use Rattle.encoding_definitions.proofs.Utf8Lemmas.{IsLongestPrefix-utf8}
+use Rattle.encoding_text.proofs.WholePrefixesLemmas.{ascii_ends, rest_stops}
+use Rattle.encoding_text.proofs.utf_8.validate.valid_up_to_by_vectors.Goals as goal
+
+pub begins_none-requires-clause-not_empty : goal.begins_none-requires-clause-not_empty
+begins_none-requires-clause-not_empty g c =
+    let prefix = c.short_ascii_valid_up_to-ascii.ensures in
+    (rest_stops _ _ prefix (ascii_ends _ _ prefix c.requires.other)).0
+
+pub begins_none-requires-clause-lead : goal.begins_none-requires-clause-lead
+begins_none-requires-clause-lead g c =
+    let prefix = c.short_ascii_valid_up_to-ascii.ensures in
+    (rest_stops _ _ prefix (ascii_ends _ _ prefix c.requires.other)).1
+
+pub returns-then-begins_none : goal.returns-then-begins_none
+returns-then-begins_none g c =
+    let prefix = c.short_ascii_valid_up_to-ascii.ensures in
+    IsLongestPrefix-utf8 c.args.src.now _ prefix.within (IsUtf8-from_ascii _ prefix.kind)
+    (rw take_rest at (c.begins_none.ensures c.if-begins_none.true))
+
+pub returns-then-begins_none-2 : goal.returns-then-begins_none-2
+returns-then-begins_none-2 g c =
+    let prefix = c.well_formed_short-well_formed.ensures in
+    IsLongestPrefix-utf8 c.args.src.now _ prefix.0 prefix.1 (rw take_rest at (c.begins_none-then-src-well_formed-ge-ASCII_END.ensures c.if-begins_none-2.true))

@@ -1,0 +1,165 @@
+//! The longest prefix of bytes that is well-formed UTF-8: one match on the length, and one loop over text and characters.
+ghost use Rattle.std.specs.Prelude.{◌≡◌, ◌<◌, ◌≤◌, true, false, length, take};
+ghost use Rattle.std.specs.Str.{IsAscii, IsUtf8};
+ghost use Rattle.encoding_definitions.specs.Prefixes.{IsLongestPrefix};
+ghost use Rattle.encoding_kernels.specs.Scans.{BelowUpTo};
+
+use super::first::{First, character_length};
+use crate::ascii::prefixes::{
+    ascii_valid_up_to_by_length, first_block_prefix, is_short, short_ascii_valid_up_to,
+};
+use encoding_kernels::lengths::{LEAST_FOR_VECTORS, SHORT, TWO_WIDEST_VECTORS};
+use encoding_kernels::simd::width::{ASCII_END, BLOCK, STRIDE};
+use encoding_kernels::utf8::validate::{well_formed_blocks, well_formed_short};
+
+/// Returns the length of a well-formed prefix: the ASCII prefix, and other text after it as far as vectors validate it.
+#[tactic(auto, using(std::proofs::lemmas::Grind::common_steps, crate::proofs::WholePrefixesLemmas::ascii_texts))]
+#[inline(always)]
+fn well_formed_prefix(src: &[u8]) -> usize
+    ensures { (result ≤ length src.now) × IsUtf8 (take result src.now) }
+{
+    if STRIDE <= src.len() && src.len() <= SHORT {
+        let ascii = short_ascii_valid_up_to(src);
+        return if ascii == src.len() {
+            ascii
+        } else {
+            well_formed_short(src)
+        };
+    }
+    let ascii = ascii_valid_up_to_by_length::<0, false>(src);
+    if ascii == src.len() || src.len() < STRIDE {
+        return ascii;
+    }
+    // malformed sequences often cluster, and a block costs more than two bytes
+    if First::begins_none(&src[ascii..]) {
+        return ascii;
+    }
+    well_formed_blocks(src, ascii)
+}
+
+/// Returns the length of the longest well-formed prefix, given that the first `known` bytes are one. A turn takes a character, and
+/// then a well-formed prefix of what is left.
+#[inline(never)]
+fn valid_after(src: &[u8], known: usize) -> usize
+    requires { (known ≤ length src.now) × IsUtf8 (take known src.now) }
+    ensures { IsLongestPrefix IsUtf8 src.now result }
+{
+    let mut at = known;
+    loop {
+        let Some(length) = character_length(&src[at..]) else {
+            return at;
+        };
+        at += length;
+        at += well_formed_prefix(&src[at..]);
+    }
+}
+
+/// Returns the length of the longest well-formed prefix of more than 64 bytes, of which the first `ascii` are ASCII. Out of line,
+/// so that `long_valid_up_to` saves no registers.
+#[inline(never)]
+fn valid_after_ascii(src: &[u8], ascii: usize) -> usize
+    requires long { 64 < length src.now }
+    requires ascii { (ascii ≤ length src.now) × BelowUpTo ASCII_END src.now ascii }
+    ensures { IsLongestPrefix IsUtf8 src.now result }
+{
+    valid_after(src, well_formed_blocks(src, ascii))
+}
+
+/// Returns the length of the longest well-formed prefix of 8 to 64 bytes that aren't all ASCII, by one or two vectors. If
+/// damaged text is expected, two bytes after the ASCII prefix show whether it ends there, before the look-ups.
+#[inline(always)]
+pub(crate) fn valid_up_to_by_vectors<const DAMAGED: bool>(src: &[u8]) -> usize
+    requires length { (8 ≤ length src.now) × (length src.now ≤ 64) }
+    requires other { IsAscii src.now → ⊥ }
+    ensures { IsLongestPrefix IsUtf8 src.now result }
+{
+    if DAMAGED && src.len() >= STRIDE && src[0] < ASCII_END {
+        let ascii = short_ascii_valid_up_to(src);
+        if First::begins_none(&src[ascii..]) {
+            return ascii;
+        }
+    }
+    let well_formed = well_formed_short(src);
+    if well_formed == src.len() {
+        return well_formed;
+    }
+    if src[well_formed] >= ASCII_END && First::begins_none(&src[well_formed..]) {
+        return well_formed;
+    }
+    valid_after(src, well_formed)
+}
+
+/// Returns the length of the longest well-formed prefix of more than 64 bytes. Between malformed sequences this is often
+/// some ASCII, which one mask shows. Two vectors show whether at most 128 bytes are all ASCII.
+#[inline(never)]
+fn long_valid_up_to(src: &[u8]) -> usize
+    requires { 64 < length src.now }
+    ensures { IsLongestPrefix IsUtf8 src.now result }
+{
+    let first = first_block_prefix(src);
+    if first != BLOCK {
+        if First::begins_none(&src[first..]) {
+            return first;
+        }
+        return valid_after_ascii(src, first);
+    }
+    if src.len() <= TWO_WIDEST_VECTORS {
+        if is_short(src) {
+            return src.len();
+        }
+        return valid_after_ascii(src, BLOCK);
+    }
+    let ascii = ascii_valid_up_to_by_length::<BLOCK, false>(src);
+    if ascii == src.len() {
+        return ascii;
+    }
+    if First::begins_none(&src[ascii..]) {
+        return ascii;
+    }
+    valid_after_ascii(src, ascii)
+}
+
+/// Returns the length of the longest well-formed prefix of at most 64 bytes that aren't all ASCII. Out of line, so that only the
+/// test for ASCII is inline.
+#[inline(never)]
+fn short_valid_up_to<const DAMAGED: bool>(src: &[u8]) -> usize
+    requires length { length src.now ≤ 64 }
+    requires other { IsAscii src.now → ⊥ }
+    ensures { IsLongestPrefix IsUtf8 src.now result }
+{
+    if src.len() < LEAST_FOR_VECTORS {
+        return valid_after(src, 0);
+    }
+    valid_up_to_by_vectors::<DAMAGED>(src)
+}
+
+/// Returns the length of the longest well-formed prefix, by the length of the bytes, which aren't all ASCII if they are at most
+/// 64. `DAMAGED` says that malformed sequences are expected.
+#[inline(always)]
+pub(crate) fn valid_beyond_ascii<const DAMAGED: bool>(src: &[u8]) -> usize
+    requires other { (length src.now ≤ 64) × IsAscii src.now → ⊥ }
+    ensures { IsLongestPrefix IsUtf8 src.now result }
+{
+    if src.len() > SHORT {
+        return long_valid_up_to(src);
+    }
+    short_valid_up_to::<DAMAGED>(src)
+}
+
+/// Returns the length in bytes of the longest prefix of `src` that is well-formed UTF-8: the index of the first byte
+/// that is in no character, or the length of `src`.
+///
+/// Unicode Standard, section 3.9, UTF-8: the bytes of a character match one of the nine rows of Table 3-7, Well-Formed
+/// UTF-8 Byte Sequences. The first byte determines the length and which second bytes are allowed. So no byte of an
+/// overlong form, of an encoded surrogate or above U+10FFFF is in the prefix.
+pub fn utf8_valid_up_to(src: &[u8]) -> usize
+    ensures { IsLongestPrefix IsUtf8 src.now result }
+{
+    if src.len() > SHORT {
+        return long_valid_up_to(src);
+    }
+    if is_short(src) {
+        return src.len();
+    }
+    short_valid_up_to::<false>(src)
+}
