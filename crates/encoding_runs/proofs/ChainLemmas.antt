@@ -19,7 +19,7 @@ use Rattle.encoding_definitions.proofs.AnyLemmas.{Any-cons, Any-none}
 piece_bytes : (p b : List ℕ) (n : ℕ) → p ++ take n b ++ drop n b ≡ p ++ b
 piece_bytes p b n = append_assoc p (take n b) (drop n b) ∙ ap (λ xs. p ++ xs) (take-append-drop n b)
 
-unread_bytes : (q b : List ℕ) (n r : ℕ) → r ≤ length (take n b) → q ++ drop r (take n b) ++ drop n b ≡ q ++ drop r b
+pub unread_bytes : (q b : List ℕ) (n r : ℕ) → r ≤ length (take n b) → q ++ drop r (take n b) ++ drop n b ≡ q ++ drop r b
 unread_bytes q b n r h = append_assoc q (drop r (take n b)) (drop n b)
     ∙ ap (λ xs. q ++ xs) (sym (drop-append-le r (take n b) (drop n b) h) ∙ ap (drop r) (take-append-drop n b))
 
@@ -39,7 +39,7 @@ first_stable p b n last parts read q g e more =
     ∙ ap (λ xs. xs ++ more) (unread_bytes q b n read g.within))
     (g.stable e (drop n b ++ more)))
 
-of_piece : (p b : List ℕ) (n : ℕ) (last : Bool) (parts : List Part) (read : ℕ) (q : List ℕ) → Yields p (take n b) last parts read q
+pub of_piece : (p b : List ℕ) (n : ℕ) (last : Bool) (parts : List Part) (read : ℕ) (q : List ℕ) → Yields p (take n b) last parts read q
     → (last ≡ true → length b ≤ n) → Yields p b last parts read q
 of_piece p b n last parts read q g whole = record {
   within = omega (arith, g.within, length-take n b);
@@ -116,7 +116,7 @@ module _ {Form Result A : Type 0} (Does : CallRelation Form Result A) (AreYielde
     abbrev Ends : Call Form Result A → Type 0
     Ends call = (call.last ≡ true) × IsInputEmpty call.result
 
-    chain_ends : (p b : List ℕ) (calls : List (Call Form Result A)) → IsChain Does p b calls → Any Ends calls
+    pub chain_ends : (p b : List ℕ) (calls : List (Call Form Result A)) → IsChain Does p b calls → Any Ends calls
         → (read_in_all calls ≡ length b) × (pending_after p calls ≡ [])
     chain_ends p b [] c some = absurd (Any-none Ends some)
     chain_ends p b (call ∷ calls) (does, whole, c) some =

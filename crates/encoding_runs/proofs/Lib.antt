@@ -13,7 +13,12 @@ pub mod CompletionLemmas
 pub mod BidiLawLemmas
 pub mod MixedLemmas
 pub mod BlockRepairLemmas
+pub mod ReaderTextLemmas
+pub mod ReaderBlockLemmas
+pub mod ReaderPieceLemmas
 -- the lemmas on these terms
 pub use Rattle.encoding_definitions.proofs.DecompositionLemmas
 pub use Rattle.encoding_definitions.proofs.LossyLemmas
 pub use Rattle.encoding_definitions.proofs.PartsLemmas
+pub mod SearchLemmas
+pub mod SearchLawLemmas

@@ -56,7 +56,7 @@ pub record YieldsPiece (p src : List ℕ) (last : Bool) (piece : Piece) (read : 
   pub text : lossy_utf8 parts ≡ text_of piece
   pub malformed : malformed_count parts ≡ malformed_in piece
 
-yielded_text : (p src : List ℕ) (last : Bool) (piece : Piece) (read : ℕ) (q : List ℕ) (parts : List Part) → BorrowedDecodeStep p src last piece read q
+pub yielded_text : (p src : List ℕ) (last : Bool) (piece : Piece) (read : ℕ) (q : List ℕ) (parts : List Part) → BorrowedDecodeStep p src last piece read q
     → AreBorrowed piece parts
     → (lossy_utf8 parts ≡ text_of piece) × (malformed_count parts ≡ malformed_in piece)
 unfolding encode

@@ -2,11 +2,13 @@ pub mod Repairs
 pub mod Streams
 pub mod MalformedSequences
 pub mod Malformations
+pub mod Searches
 pub mod Blocks
 pub mod Calls
 pub mod MixedCalls
 pub mod Runs
 pub mod Steps
+pub mod Reading
 -- the terms of the standards, so that a crate above needs no other to cite them
 pub use Rattle.encoding_definitions.specs.Sequence
 pub use Rattle.encoding_definitions.specs.Parts

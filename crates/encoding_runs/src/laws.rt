@@ -25,6 +25,9 @@ ghost use Rattle.encoding_runs.specs.Blocks.{IsBlockRepair, RepairTheParts, repl
 ghost use Rattle.encoding_runs.specs.Repairs.{IsLossyDecodeWith};
 ghost use Rattle.encoding_runs.specs.MalformedSequences.{IsNextMalformed, AreFoundInTurn, malformed_indices};
 ghost use Rattle.encoding_runs.specs.Malformations.{IsMalformation};
+ghost use Rattle.encoding_runs.specs.declared.search.StreamMalformation.{StreamMalformation};
+ghost use Rattle.encoding_runs.specs.declared.search.SearchedBlock.{SearchedBlock};
+ghost use Rattle.encoding_runs.specs.Searches.{IsBlockSearch, StartInTurn, FindTheMalformed, IsFinished, AreAllMalformed};
 ghost use Rattle.encoding_runs.specs.declared.malformed.Malformation.{Malformation};
 
 /// The well-formed sequences are exactly the UTF-8 of the scalar values, one for each. None is a proper prefix of
@@ -121,6 +124,26 @@ pub fn law_block_repair()
         → IsChain IsBlockRepair [] b calls
         → Any (λ call. (call.last ≡ true) × (call.result.finished ≡ true)) calls
         → IsLossyDecodeWith b (output_of calls) (replaced_in_all calls) }
+{}
+
+/// Calls of `search_block` over one stream store the malformed sequences among the first parts of the stream, each with
+/// its offset, length and kind, for any cuts and any arrays. Each call starts with the first unread byte, and with what
+/// the previous call left pending and its offset. Once a call marked last is finished, these are all malformed sequences
+/// of the stream, in order. Bytes have exactly one list of them. Their offsets and lengths are what repeated calls of
+/// `next_malformed` find. Encoding Standard, UTF-8 decoder; Unicode Standard, Table 3-7.
+pub fn law_block_search()
+    ensures prefix { (p : List ℕ) (start : ℕ) (b : List ℕ)
+        (calls : List (Call (ℕ × ℕ) SearchedBlock StreamMalformation))
+        → (calls ≡ [] → IsPending p) → StartInTurn p start calls
+        → IsChain IsBlockSearch p b calls → FindTheMalformed p start b calls }
+    ensures whole { (b : List ℕ) (calls : List (Call (ℕ × ℕ) SearchedBlock StreamMalformation))
+        → StartInTurn [] 0 calls → IsChain IsBlockSearch [] b calls → IsFinished calls
+        → AreAllMalformed b (output_of calls) }
+    ensures one { (bs : List ℕ) (found others : List StreamMalformation) → AreAllMalformed bs found
+        → AreAllMalformed bs others → found ≡ others }
+    ensures indices { (bs : List ℕ) (found : List StreamMalformation) → AreAllMalformed bs found
+        → (parts : List Part) × ArePartsOf bs parts
+        × (map (λ one. (one.offset, one.length)) found ≡ malformed_indices 0 parts) }
 {}
 
 /// For given pending bytes, source, `last` and, with a destination, space, each call of a decoder has exactly one

@@ -4,5 +4,7 @@
 
 pub mod laws;
 pub mod malformed;
+pub mod reader;
 pub mod repair;
 pub mod run;
+pub mod search;

@@ -62,7 +62,7 @@ pub fn next_malformed(src: &[u8]) -> Option<MalformedSequence>
 }
 
 /// Returns why a sequence is malformed that starts with `first` and is followed by `rest`.
-fn why_malformed(first: u8, rest: &[u8]) -> Malformation
+pub(crate) fn why_malformed(first: u8, rest: &[u8]) -> Malformation
     ensures { (more : List ℕ) (last : Bool) → IsMalformed (first ∷ more) rest.now last
         → IsMalformation (first ∷ more) rest.now result }
 {
