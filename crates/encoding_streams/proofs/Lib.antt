@@ -7,3 +7,10 @@ pub mod Utf16RoomLemmas
 pub mod Utf16ChainLemmas
 pub mod Utf16LossyLemmas
 pub mod Utf16OneResultLemmas
+pub mod DecoderYieldLemmas
+pub mod InnerLemmas
+pub mod DecoderCallLemmas
+pub mod SniffLemmas
+pub mod SniffCallLemmas
+pub mod ReplacingCallLemmas
+pub mod DecoderChainLemmas

@@ -2,9 +2,9 @@
 use Rattle.std.proofs.Common.{◌≡◌, ℕ, ◌+◌, ◌≤◌, inl, inr, Bool, true, false, ◌||◌, List, [], ◌∷◌, ◌++◌, length, take, drop, map, refl, sym, ap, ◌∙◌, arith, subst, append_assoc}
 use Rattle.std.specs.Prelude.{Any}
 use Rattle.std.specs.List.{flat_map}
-use Rattle.std.proofs.lemmas.List.{append-nil, append_cancel_right, length-append, length-drop, length-take, take-append-drop, take_all, drop_all, drop-append-le, drop-drop, nil_from_length}
+use Rattle.std.proofs.lemmas.List.{append_cancel_right, length-append, length-drop, length-take, take-append-drop, take_all, drop-append-le, drop-drop, nil_from_length}
 use Rattle.encoding_text.specs.Parts.{Part, Character, IllFormed}
-use Rattle.encoding_text.specs.Decoding.{IsReported, AreDecoded}
+use Rattle.encoding_text.specs.Decoding.{AreDecoded}
 use Rattle.encoding_text.specs.declared.utf_16.ByteOrder.{ByteOrder}
 use Rattle.encoding_text.specs.declared.decoder.DecoderResult.{DecoderResult}
 use Rattle.encoding_text.specs.declared.decoder.DecoderResult.TheVariants.{InputEmpty, OutputFull, Malformed}

@@ -1,9 +1,9 @@
 -- The parts of the bytes of code units are the parts of these units: their text is that of std's lossy decoding.
-use Rattle.std.proofs.Common.{◌≡◌, ◌≢◌, ℕ, suc, ◌<◌, ◌≤◌, inl, inr, true, List, [], ◌∷◌, ◌++◌, length, map, refl, sym, ap, ◌∙◌, arith, subst}
+use Rattle.std.proofs.Common.{◌≡◌, ℕ, suc, inl, inr, true, List, [], ◌∷◌, ◌++◌, length, map, refl, sym, ap, ◌∙◌, arith, subst}
 use Rattle.std.specs.Char.Escape.{encode_utf16}
 use Rattle.std.specs.Char.Utf16.{utf16_lossy_chars}
 use Rattle.std.specs.List.{flat_map}
-use Rattle.std.proofs.lemmas.List.{append-nil, length-append}
+use Rattle.std.proofs.lemmas.List.{append-nil}
 use Rattle.encoding_text.specs.Parts.{Part, Character, IllFormed, lossy_scalar}
 use Rattle.encoding_text.specs.Utf16.{AreCodeUnits, IsHighSurrogate, Part16, Character16, Unpaired, units_of_part16, scalar_of_part16, ArePaired}
 use Rattle.encoding_text.specs.FirstScalar.{BeginsLow, IsFirstPart16}

@@ -1,11 +1,11 @@
 -- What follows from one call of the UTF-16 decoder: it makes progress, and a destination of the queried length is large
 -- enough.
-use Rattle.std.proofs.Common.{◌≡◌, ◌≢◌, ℕ, ◌+◌, ◌-◌, ◌*◌, ◌/◌, ◌<◌, ◌≤◌, ◌⊎◌, inl, inr, Bool, true, List, [], ◌∷◌, ◌++◌, length, take, drop, encode_utf8, refl, sym, ap, ◌∙◌, arith, subst}
+use Rattle.std.proofs.Common.{◌≡◌, ℕ, ◌+◌, ◌-◌, ◌*◌, ◌<◌, ◌≤◌, ◌⊎◌, inl, inr, Bool, true, List, [], ◌∷◌, ◌++◌, length, take, drop, encode_utf8, refl, sym, ap, ◌∙◌, arith}
 use Rattle.std.specs.Char.Escape.{encode_utf16}
 use Rattle.std.specs.List.{flat_map}
 use Rattle.std.specs.Str.{all_scalars}
 use Rattle.std.proofs.lemmas.Bool.{and_parts, cases_lt}
-use Rattle.std.proofs.lemmas.List.{append-nil, length-append, length-drop, length-take, length-take-le}
+use Rattle.std.proofs.lemmas.List.{append-nil, length-append, length-drop, length-take-le}
 use Rattle.encoding_text.specs.Parts.{Part, Character, IllFormed}
 use Rattle.encoding_text.specs.Utf16.{Character16}
 use Rattle.encoding_text.specs.Decoding.{IsReport, Suffices}

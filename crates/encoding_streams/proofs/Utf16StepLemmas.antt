@@ -1,27 +1,24 @@
 -- Steps of a call of the UTF-16 decoder: how one continues another, what a block of code units is, and what the first
 -- bytes after the pending ones are.
-use Rattle.std.proofs.Common.{◌≡◌, ◌≢◌, ℕ, zero, suc, ◌+◌, ◌-◌, ◌*◌, ◌<◌, ◌≤◌, ◌⊎◌, inl, inr, Bool, true, false, List, [], ◌∷◌, ◌++◌, length, take, drop, refl, sym, ap, ◌∙◌, arith, subst, append_assoc, take-add}
-use Rattle.std.specs.Char.{IsScalar}
+use Rattle.std.proofs.Common.{◌≡◌, ◌≢◌, ℕ, ◌+◌, ◌-◌, ◌*◌, ◌<◌, ◌≤◌, inl, inr, Bool, true, List, [], ◌∷◌, ◌++◌, length, take, drop, refl, sym, ap, ◌∙◌, arith, subst, append_assoc, take-add}
 use Rattle.std.specs.Char.Escape.{encode_utf16}
 use Rattle.std.specs.List.{flat_map}
 use Rattle.std.specs.Str.{all_scalars}
 use Rattle.std.proofs.lemmas.Bool.{and_parts, and_from, cases_lt}
-use Rattle.std.proofs.lemmas.List.{append-nil, length-append, length-drop, length-take, length-take-le, take_at, take_all, take_rest, drop_all, drop_at, drop-drop, take-append-drop, take-append-le, drop-append-le, take-take, nil_from_length}
+use Rattle.std.proofs.lemmas.List.{append-nil, length-append, length-drop, length-take, length-take-le, take_at, take_all, take_rest, drop_at, drop-drop, take-append-drop, take-take}
 use Rattle.std.proofs.lemmas.List.Concat.{flat_map-append}
-use Rattle.std.proofs.Math.Seq.{take-append-add}
 use borrow.Rule.Slice.PartMut.{put_mid}
-use Rattle.encoding_text.specs.Parts.{Part, Character, IllFormed}
-use Rattle.encoding_text.specs.Prefixes.{WritesPrefix, IsLongestPrefix}
-use Rattle.encoding_text.specs.Surrogates.{IsValidUtf16}
-use Rattle.encoding_text.specs.Utf16Bytes.{unit_bytes, utf16_bytes}
+use Rattle.encoding_text.specs.Parts.{Character, IllFormed}
+use Rattle.encoding_text.specs.Prefixes.{WritesPrefix}
+use Rattle.encoding_text.specs.Utf16Bytes.{utf16_bytes}
 use Rattle.encoding_text.specs.declared.utf_16.ByteOrder.{ByteOrder}
 use Rattle.encoding_text.specs.declared.decoder.DecoderResult.{DecoderResult}
 use Rattle.encoding_text.specs.declared.decoder.DecoderResult.TheVariants.{InputEmpty, OutputFull, Malformed}
 use Rattle.encoding_text.proofs.PrefixesLemmas.{WritesPrefix-nil, WritesPrefix-length, WritesPrefix_after, written_is}
 use Rattle.encoding_streams.specs.Utf16Parts.{bytes_of_scalars, IsPendingUtf16, IsMalformedUtf16, IsFirstPartUtf16}
-use Rattle.encoding_streams.specs.Utf16Decoding.{NeedsMore, IsUtf16DecodeResult, DecodeUtf16Step, DecodeUtf16StepInto}
+use Rattle.encoding_streams.specs.Utf16Decoding.{NeedsMore, IsUtf16DecodeResult, DecodeUtf16StepInto}
 use Rattle.encoding_streams.specs.Utf16Steps.{Advances, BeginsTooLong, WritesUnits}
-use Rattle.encoding_streams.proofs.Utf16ByteLemmas.{length-utf16_bytes, utf16_bytes-append, take-utf16_bytes, bytes_of_scalars-append, character_some, pending_nil, no_characters_pending, length-pending}
+use Rattle.encoding_streams.proofs.Utf16ByteLemmas.{length-utf16_bytes, utf16_bytes-append, take-utf16_bytes, bytes_of_scalars-append, character_some, pending_nil}
 use Rattle.encoding_streams.proofs.Utf16PartLemmas.{part_bytes}
 
 -- the characters of two lists

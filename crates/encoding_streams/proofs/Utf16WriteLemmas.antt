@@ -1,18 +1,17 @@
 -- What is written of valid code units: the characters that fit, in UTF-8 or in UTF-16.
-use Rattle.std.proofs.Common.{◌≡◌, ℕ, zero, suc, ◌+◌, ◌-◌, ◌*◌, ◌<◌, ◌≤◌, inl, inr, true, min, List, [], ◌∷◌, ◌++◌, length, take, drop, map, get_or, encode_utf8, refl, sym, ap, ◌∙◌, arith, subst, append_assoc}
+use Rattle.std.proofs.Common.{◌≡◌, ℕ, zero, suc, ◌+◌, ◌-◌, ◌<◌, ◌≤◌, inl, inr, true, min, List, [], ◌∷◌, ◌++◌, length, take, drop, map, get_or, encode_utf8, refl, sym, ap, ◌∙◌, arith, subst, append_assoc}
 use Rattle.std.specs.Char.{IsScalar}
 use Rattle.std.specs.Char.Escape.{encode_utf16}
 use Rattle.std.specs.List.{flat_map}
 use Rattle.std.specs.Str.{all_scalars}
 use Rattle.std.proofs.lemmas.Bool.{and_parts, cases_lt}
-use Rattle.std.proofs.lemmas.List.{append-nil, length-append, length-take, length-take-le, take_at, take_all, drop_at, drop_more, drop_all, length-drop, length-map, take-append-drop, take-append-le, take-take, get_or-drop, get_or-take}
+use Rattle.std.proofs.lemmas.List.{append-nil, length-append, length-take-le, take_at, drop_at, length-drop, length-map, take-append-drop, take-take, get_or-drop, get_or-take}
 use Rattle.std.proofs.lemmas.List.Concat.{flat_map-append}
 use Rattle.std.proofs.str.Utf16.{one_unit, IsPair}
 use Rattle.encoding_text.specs.Prefixes.{WritesPrefix, IsLongestPrefix}
 use Rattle.encoding_text.specs.Surrogates.{IsValidUtf16}
-use Rattle.encoding_text.specs.Utf16.{Part16, Character16, units_of_part16, utf8_of_part16, ArePartsOf16, IsUtf8OfLongestPrefix}
+use Rattle.encoding_text.specs.Utf16.{Part16, Character16, units_of_part16, utf8_of_part16, IsUtf8OfLongestPrefix}
 use Rattle.encoding_text.proofs.SurrogateLemmas.{scalars_of_valid, valid-encode, valid_stop}
-use Rattle.encoding_text.proofs.EncodingLemmas.{length-encode_utf16-le}
 use Rattle.encoding_definitions.proofs.Utf16Lemmas.{parts_unique, halves}
 use Rattle.encoding_streams.specs.Utf16Steps.{WritesUnits}
 use Rattle.encoding_streams.proofs.Utf16StepLemmas.{scalars_split}

@@ -14,6 +14,8 @@ ghost use Rattle.encoding_runs.specs.Calls.{Call, IsChain};
 ghost use Rattle.encoding_streams.specs.Utf16Parts.{AreBytes, bytes_of_scalars, bytes_of_utf16, IsPendingUtf16, StartsWithUtf16, ArePartsOfUtf16, AreFinalUtf16};
 ghost use Rattle.encoding_streams.specs.Utf16Decoding.{DecodeUtf16Step};
 ghost use Rattle.encoding_streams.specs.Utf16Calls.{YieldUtf16Parts};
+ghost use Rattle.encoding_streams.specs.Decoders.{DecoderState};
+ghost use Rattle.encoding_streams.specs.DecoderCalls.{Made, AreMade, WriteTheText};
 
 /// In each byte order, bytes have exactly one list of parts. The bytes of the parts, joined, are these bytes. The parts
 /// of the bytes of scalar values are these characters. With U+FFFD for each malformed sequence, the parts of the bytes of
@@ -68,4 +70,17 @@ pub fn law_utf16_calls()
         → IsPendingUtf16 order p
         → IsChain (DecodeUtf16Step order encode_utf8 4) p b calls
         → YieldUtf16Parts order encode_utf8 p b calls }
+{}
+
+/// Calls of a decoder that replaces malformed sequences, over one stream, each passed the first of the unread bytes.
+/// Together they write the text of the first parts of the stream without its mark, with U+FFFD for each malformed
+/// sequence, and count these, in any pieces and destinations. Once a call marked last returns `InputEmpty`, it is the text
+/// of the whole. Encoding Standard, "decode".
+pub fn law_decoder_calls()
+    ensures utf16 { (state : DecoderState) (stream : List ℕ) (calls : List (Made ℕ))
+        → AreMade encode_utf16 2 state stream calls
+        → WriteTheText encode_utf16 state stream calls }
+    ensures utf8 { (state : DecoderState) (stream : List ℕ) (calls : List (Made ℕ))
+        → AreMade encode_utf8 4 state stream calls
+        → WriteTheText encode_utf8 state stream calls }
 {}

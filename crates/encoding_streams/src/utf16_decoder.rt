@@ -1,8 +1,8 @@
 //! The streaming decoder of UTF-16LE and UTF-16BE: Encoding Standard, section 14.2, shared UTF-16 decoder. Its calls have
 //! the form of those of the UTF-8 decoder. The elements of `dst` past those reported as written are unchanged.
 
-mod code_unit;
-mod pending;
+pub(crate) mod code_unit;
+pub(crate) mod pending;
 mod window;
 
 ghost use Rattle.std.specs.Prelude.{◌≡◌, ◌≢◌, ℕ, ◌<◌, ◌≤◌, ◌↔◌, ◌⊎◌, ◌+◌, ◌-◌, ◌*◌, List, [], length, drop, encode_utf8, IsTrue, IsFalse};
@@ -68,6 +68,14 @@ impl Utf16Decoder {
         ensures pending { IsPendingUtf16 self.now.order self.now.pending }
     {
         self.pending.is_empty()
+    }
+
+    /// Returns how many bytes are pending.
+    pub(crate) fn pending_length(&self) -> usize
+        ensures length { result ≡ length self.now.pending }
+        ensures within { result ≤ 3 }
+    {
+        self.pending.len()
     }
 
     /// Returns the length in UTF-16 code units of a destination that is large enough for the next `byte_length` bytes,
@@ -274,6 +282,11 @@ fn convert_blocks<U: CodeUnit, const N: usize>(
             return (read, written, true);
         }
         if more == 0 {
+            return (read, written, false);
+        }
+        // a block may end inside a pair; before any other unit the characters end, and the next block has none
+        let ended = more + 2 < 2 * N;
+        if ended {
             return (read, written, false);
         }
     }

@@ -8,7 +8,7 @@ ghost use Rattle.encoding_streams.specs.Utf16Steps.{WritesUnits};
 use encoding_text::mem::{convert_utf16_to_utf8_partial, utf16_valid_up_to};
 
 /// A code unit of the output.
-pub(super) trait CodeUnit: Copy {
+pub(crate) trait CodeUnit: Copy {
     // a scalar value in these code units
     ghost encode: { ℕ → List Self };
 

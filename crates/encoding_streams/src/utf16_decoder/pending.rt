@@ -1,12 +1,12 @@
 //! The pending bytes of a decoder.
-ghost use Rattle.std.specs.Prelude.{◌≡◌, ℕ, ◌+◌, ◌≤◌, ◌↔◌, ◌++◌, List, [], length, take, min, IsTrue};
+ghost use Rattle.std.specs.Prelude.{◌≡◌, ℕ, ◌+◌, ◌-◌, ◌≤◌, ◌↔◌, ◌++◌, List, [], length, take, drop, min, IsTrue};
 
 use super::window::WINDOW;
 use std::marker::Model;
 
 /// At most three bytes.
 #[derive(Drop)]
-pub(super) struct Pending {
+pub(crate) struct Pending {
     bytes: [u8; 4],
     count: usize,
 }
@@ -21,7 +21,7 @@ impl Model for Pending {
 
 impl Pending {
     /// Returns no bytes.
-    pub(super) fn none() -> Pending
+    pub(crate) fn none() -> Pending
         ensures { result ≡ [] }
     {
         Pending {
@@ -30,11 +30,15 @@ impl Pending {
         }
     }
 
-    /// Returns these bytes as pending.
-    pub(super) fn hold(held: &[u8]) -> Pending
+    /// Returns these bytes as pending. A call rarely ends inside a character, and then no bytes are copied.
+    #[inline(always)]
+    pub(crate) fn hold(held: &[u8]) -> Pending
         requires at_most_three { length held.now ≤ 3 }
         ensures { result ≡ held.now }
     {
+        if held.is_empty() {
+            return Pending::none();
+        }
         let count = held.len();
         let mut bytes = [0; 4];
         bytes[..count].copy_from_slice(held);
@@ -42,22 +46,31 @@ impl Pending {
     }
 
     /// Returns whether there are none.
-    pub(super) fn is_empty(&self) -> bool
+    pub(crate) fn is_empty(&self) -> bool
         ensures { IsTrue result ↔ (self.now ≡ []) }
     {
         self.count == 0
     }
 
     /// Returns how many there are.
-    pub(super) fn len(&self) -> usize
+    pub(crate) fn len(&self) -> usize
         ensures length { result ≡ length self.now }
         ensures within { result ≤ 3 }
     {
         self.count
     }
 
+    /// Returns an array that starts with these bytes, and how many they are.
+    pub(crate) fn bytes(&self) -> ([u8; 4], usize)
+        ensures bytes { take result.1 result.0 ≡ self.now }
+        ensures count { result.1 ≡ length self.now }
+        ensures within { result.1 ≤ 3 }
+    {
+        (self.bytes, self.count)
+    }
+
     /// Returns the first four bytes of these bytes and `src`, and how many they are, if fewer.
-    pub(super) fn followed_by(&self, src: &[u8]) -> ([u8; 4], usize)
+    pub(crate) fn followed_by(&self, src: &[u8]) -> ([u8; 4], usize)
         ensures count { result.1 ≡ min 4 (length self.now + length src.now) }
         ensures bytes { take result.1 result.0 ≡ take 4 (self.now ++ src.now) }
     {
@@ -66,5 +79,32 @@ impl Pending {
         let end = self.count + more;
         bytes[self.count..end].copy_from_slice(&src[..more]);
         (bytes, end)
+    }
+
+    /// Returns the last `count` bytes of these as pending.
+    pub(crate) fn suffix(bytes: &[u8], count: usize) -> Pending
+        requires at_most_three { count ≤ 3 }
+        requires within { count ≤ length bytes.now }
+        ensures { result ≡ drop (length bytes.now - count) bytes.now }
+    {
+        Pending::hold(&bytes[bytes.len() - count..])
+    }
+
+    /// Returns the last `count` bytes of `before` followed by `read` as pending.
+    pub(crate) fn suffix_of_both(before: &[u8], read: &[u8], count: usize) -> Pending
+        requires before { length before.now ≤ 3 }
+        requires at_most_three { count ≤ 3 }
+        requires within { count ≤ length before.now + length read.now }
+        ensures { result ≡ drop (length before.now + length read.now - count)
+            (before.now ++ read.now) }
+    {
+        if count <= read.len() {
+            return Pending::suffix(read, count);
+        }
+        let mut bytes = [0; 6];
+        let end = before.len() + read.len();
+        bytes[..before.len()].copy_from_slice(before);
+        bytes[before.len()..end].copy_from_slice(read);
+        Pending::suffix(&bytes[..end], count)
     }
 }

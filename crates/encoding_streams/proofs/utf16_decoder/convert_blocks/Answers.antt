@@ -1,5 +1,5 @@
 use Rattle.std.proofs.Common.{[], arith}
-use Rattle.encoding_streams.proofs.Utf16StepLemmas.{advance_none, advance_then, rest_length, too_long_after}
+use Rattle.encoding_streams.proofs.Utf16StepLemmas.{advance_none, advance_then, too_long_after}
 use Rattle.encoding_streams.proofs.utf16_decoder.convert_blocks.Goals as goal
 
 pub loop-read-init : goal.loop-read-init
@@ -27,6 +27,10 @@ returns-then-full-clause-full g c = λ _.
 
 pub returns-then-more-eq0-clause-characters : goal.returns-then-more-eq0-clause-characters
 returns-then-more-eq0-clause-characters g c =
+    advance_then c.args.order g.U.CodeUnit.encode [] [] [] c.args.src.now _ _ _ _ _ _ _ c.loop-read.invariant c.convert_block-more.ensures.characters
+
+pub returns-then-ended-clause-characters : goal.returns-then-ended-clause-characters
+returns-then-ended-clause-characters g c =
     advance_then c.args.order g.U.CodeUnit.encode [] [] [] c.args.src.now _ _ _ _ _ _ _ c.loop-read.invariant c.convert_block-more.ensures.characters
 
 pub whole_as_slice-convert_block : goal.whole_as_slice-convert_block

@@ -1,5 +1,4 @@
-use Rattle.std.proofs.Common.{◌≡◌, [], sym, subst, arith}
-use Rattle.std.proofs.lemmas.Bool.{both_ways}
+use Rattle.std.proofs.Common.{◌≡◌, [], sym, subst}
 use Rattle.encoding_streams.specs.Utf16Steps.{Advances}
 use Rattle.encoding_streams.proofs.Utf16StepLemmas.{advance_none}
 use Rattle.encoding_streams.proofs.utf16_decoder.convert_neutral.Goals as goal

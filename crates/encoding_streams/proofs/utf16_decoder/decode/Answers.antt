@@ -1,4 +1,4 @@
-use Rattle.std.proofs.Common.{◌≡◌, ◌≢◌, ◌+◌, ◌-◌, [], length, refl, sym, subst, ◌∙◌, arith}
+use Rattle.std.proofs.Common.{◌≡◌, [], refl, sym, subst, arith}
 use Rattle.encoding_streams.specs.Utf16Parts.{IsPendingUtf16}
 use Rattle.encoding_streams.proofs.Utf16ByteLemmas.{pending_nil}
 use Rattle.encoding_streams.proofs.Utf16StepLemmas.{advance_none, advance_then, too_long_after, all_after, full_after, ends_after}

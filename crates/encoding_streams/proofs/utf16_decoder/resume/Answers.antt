@@ -1,4 +1,4 @@
-use Rattle.std.proofs.Common.{◌≡◌, ◌≢◌, ℕ, ◌+◌, ◌<◌, ◌≤◌, ◌*◌, ◌-◌, true, List, [], ◌++◌, length, take, min, refl, sym, ap, ◌∙◌, arith}
+use Rattle.std.proofs.Common.{◌≡◌, ◌≢◌, ℕ, ◌+◌, ◌<◌, ◌≤◌, ◌*◌, true, List, ◌++◌, length, take, min, refl, sym, ap, ◌∙◌, arith}
 use Rattle.std.proofs.lemmas.Bool.{both_ways, eqb-true, eqb-false}
 use Rattle.std.proofs.lemmas.List.{length-append, length-take, length-take-le}
 use Rattle.encoding_streams.proofs.Utf16WindowLemmas.{at_most_two, window_full, fewer_pending, window_advances, unpaired_full, unpaired_read, unpaired_pending, pending_whole, cut_full, cut_report}

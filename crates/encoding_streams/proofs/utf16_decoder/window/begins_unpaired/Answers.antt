@@ -1,4 +1,4 @@
-use Rattle.std.proofs.Common.{◌≡◌, ◌≢◌, ◌≤◌, ◌<◌, get_or, length, sym, ◌∙◌, arith}
+use Rattle.std.proofs.Common.{◌≢◌, ◌≤◌, ◌<◌, get_or, length, sym, ◌∙◌, arith}
 use Rattle.std.proofs.lemmas.Bool.{eqb-false}
 use Rattle.std.proofs.lemmas.Bool.Decides.{nat_tests}
 use Rattle.encoding_streams.proofs.Utf16WindowLemmas.{unpaired_two, unpaired_one}

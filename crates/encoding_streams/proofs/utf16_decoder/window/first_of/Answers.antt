@@ -1,4 +1,4 @@
-use Rattle.std.proofs.Common.{◌≡◌, take, subst, sym, arith}
+use Rattle.std.proofs.Common.{◌≡◌, take, subst, arith}
 use Rattle.encoding_text.specs.Prefixes.{IsLongestPrefix}
 use Rattle.encoding_text.specs.Surrogates.{IsValidUtf16}
 use Rattle.encoding_streams.proofs.Utf16StepLemmas.{block_spelled}

@@ -1,0 +1,15 @@
+use Rattle.std.proofs.Common.{◌+◌, ◌-◌, length}
+use Rattle.encoding_streams.specs.Marks.{IsUndecided}
+use Rattle.encoding_streams.specs.DecoderSteps.{AreReplacingSteps, shown}
+use Rattle.encoding_streams.proofs.decoder.replacing.replace.Given as goal
+
+abbrev pub invariant-loop-result : goal.invariant-loop-result
+invariant-loop-result g l =
+    record {
+      steps : AreReplacingSteps g.U.CodeUnit.encode g.U.Output.replacing
+          (shown l.fn.state) l.src l.fn.dst l.dst l.last l.read l.written l.replaced (shown l.state);
+      undecided : IsUndecided l.state.bom l.state.encoding l.state.pending;
+    }
+
+abbrev pub decreases-loop-result : goal.decreases-loop-result
+decreases-loop-result g l = length l.state.pending + (length l.src - l.read)

@@ -1,0 +1,13 @@
+use Rattle.encoding_streams.proofs.DecoderCallLemmas.{inner_reports}
+use Rattle.encoding_streams.proofs.decoder.state.decode_neutral.Goals as goal
+
+pub returns-clause-reports : goal.returns-clause-reports
+returns-clause-reports g c =
+    let made = c.decode-result in
+    rw (c.requires.neutral, c.kept-state.ensures) (inner_reports g.U.CodeUnit.encode g.U.CodeUnit.need g.U.Output.query g.U.Output.replacing _ _
+    c.new-inner.result made.new.decoder _ _ _ _ _ _ _ c.new-inner.ensures (record {
+      call = made.ensures.call;
+      suffices = made.ensures.suffices;
+      between_reports = made.ensures.suffices_between_reports;
+      replaced = made.ensures.suffices_replacing;
+    }))

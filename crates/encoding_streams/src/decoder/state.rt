@@ -1,0 +1,226 @@
+//! What a decoder keeps between calls, and its calls that report malformed sequences.
+ghost use Rattle.std.specs.Prelude.{◌≢◌, ◌⊎◌, ◌-◌, false, ◌≡◌, ◌↔◌, ℕ, ◌<◌, ◌≤◌, true, List, [], ◌++◌, length, IsTrue};
+ghost use Rattle.encoding_streams.specs.Marks.{IsUndecided};
+ghost use Rattle.encoding_streams.specs.Decoders.{decoding};
+ghost use Rattle.encoding_streams.specs.DecoderSteps.{IsSniffed, IsStop, LeavesFree, Reports, reported_with, shown, state_of};
+
+use super::inner::{Inner, Output};
+use crate::encoding::{BomHandling, Encoding, begins_mark, found_mark, mark_length};
+use crate::utf16_decoder::pending::Pending;
+use encoding_text::decoder::DecoderResult;
+
+/// The encoding, the marks that are looked for, and the bytes that were read and are still to be decoded.
+#[derive(Drop)]
+pub(crate) struct State {
+    pub(crate) encoding: Encoding,
+    pub(crate) bom: BomHandling,
+    pub(crate) pending: Pending,
+}
+
+/// Returns whether no mark is looked for.
+#[inline(always)]
+pub(crate) fn is_off(bom: BomHandling) -> bool
+    ensures off { result ≡ true → bom ≡ BomHandling.Off }
+    ensures on { bom ≡ BomHandling.Off → result ≡ true }
+{
+    matches!(bom, BomHandling::Off)
+}
+
+/// Looks for a mark at the start of the pending bytes followed by `src`, and returns how many bytes of `src` it read.
+#[inline(never)]
+fn look_for_mark(state: &mut State, src: &[u8], last: bool) -> usize
+    requires undecided { IsUndecided state.old.bom state.old.encoding state.old.pending }
+    ensures { IsSniffed (shown state.old) src.now last (shown state.new) result }
+{
+    let before = state.pending.len();
+    let (window, count) = state.pending.followed_by(src);
+    let window = &window[..count];
+    if let Some(encoding) = found_mark(state.bom, state.encoding, window) {
+        state.encoding = encoding;
+        state.bom = BomHandling::Off;
+        state.pending = Pending::none();
+        return mark_length(encoding) - before;
+    }
+    if !last && begins_mark(state.bom, state.encoding, window) {
+        state.pending = Pending::hold(window);
+        return src.len();
+    }
+    state.bom = BomHandling::Off;
+    0
+}
+
+/// Looks for a mark as `look_for_mark` does, if any is looked for.
+#[inline(always)]
+fn sniff(state: &mut State, src: &[u8], last: bool) -> usize
+    requires undecided { IsUndecided state.old.bom state.old.encoding state.old.pending }
+    ensures { IsSniffed (shown state.old) src.now last (shown state.new) result }
+{
+    // its length is at most three
+    let _length = state.pending.len();
+    if is_off(state.bom) {
+        return 0;
+    }
+    look_for_mark(state, src, last)
+}
+
+/// Returns whether a call ends after these bytes of a source of this length: a mark may still come, or a mark ends it.
+#[inline(always)]
+fn is_at_end(bom: BomHandling, sniffed: usize, length: usize) -> bool
+    requires within { sniffed ≤ length }
+    ensures yes { result ≡ true → (bom ≢ BomHandling.Off) ⊎ ((0 < sniffed) × (sniffed ≡ length)) }
+    ensures no { result ≡ false
+        → (bom ≡ BomHandling.Off) × ((sniffed ≡ 0) ⊎ (0 < length - sniffed)) }
+{
+    if !is_off(bom) {
+        return true;
+    }
+    sniffed > 0 && sniffed == length
+}
+
+/// Returns what is pending of a decoder: the last of the bytes before its call followed by those that it read.
+#[inline(always)]
+fn kept(inner: &Inner, before: &[u8], read: &[u8]) -> Pending
+    requires before { length before.now ≤ 3 }
+    requires keeps { (front : List ℕ)
+        × (before.now ++ read.now ≡ front ++ (state_of inner.now).pending) }
+    ensures { result ≡ (state_of inner.now).pending }
+{
+    Pending::suffix_of_both(before, read, inner.pending_length())
+}
+
+/// Returns whether all of the source was read.
+#[inline(always)]
+fn is_all_read(ended: &DecoderResult) -> bool
+    ensures { IsTrue result ↔ (ended.now ≡ DecoderResult.InputEmpty) }
+{
+    matches!(ended, DecoderResult::InputEmpty)
+}
+
+/// Returns the result of a call that didn't read all, if `rest` bytes are pending after it.
+#[inline(always)]
+fn with_rest(ended: DecoderResult, rest: usize) -> DecoderResult
+    requires at_most_three { rest ≤ 3 }
+    ensures { result ≡ reported_with ended rest }
+{
+    match ended {
+        DecoderResult::Malformed(length, _) => DecoderResult::Malformed(length, rest as u8),
+        other => other,
+    }
+}
+
+/// Returns what ends a call without `src`, if it is empty: all was read, or there is no space for a report of what is
+/// pending at the end of the stream. `None` if the decoder has to read on, or to report.
+#[inline(always)]
+fn stop<U: Output>(inner: &Inner, src: &[u8], room: usize, last: bool) -> Option<DecoderResult>
+    ensures { IsStop U.need (state_of inner.now).pending src.now room last result }
+{
+    if !src.is_empty() {
+        return None;
+    }
+    if !last || inner.pending_length() == 0 {
+        return Some(DecoderResult::InputEmpty);
+    }
+    if room < U::max_units_per_scalar() {
+        return Some(DecoderResult::OutputFull);
+    }
+    None
+}
+
+/// Decodes `src` with a decoder that has nothing pending.
+#[inline(always)]
+fn decode_neutral<U: Output>(
+    state: &mut State,
+    src: &[u8],
+    dst: &mut [U],
+    last: bool,
+) -> (DecoderResult, usize, usize)
+    requires neutral { state.old.pending ≡ [] }
+    ensures kept { (state.new.bom ≡ state.old.bom) × (state.new.encoding ≡ state.old.encoding) }
+    ensures reports { Reports U.encode U.need U.query U.replacing
+        (decoding state.old.encoding state.old.pending) src.now dst.old dst.new last
+        result.0 result.1 result.2 (decoding state.old.encoding state.new.pending) }
+    ensures free { LeavesFree U.need state.old.pending src.now (length dst.old) result.0 result.2 }
+{
+    let mut inner = Inner::new(state.encoding);
+    let (result, read, written) = U::decode(&mut inner, src, dst, last);
+    state.pending = kept(&inner, &[], &src[..read]);
+    (result, read, written)
+}
+
+/// Decodes the pending bytes, and then `src`.
+#[inline(never)]
+fn decode_pending<U: Output>(
+    state: &mut State,
+    src: &[u8],
+    dst: &mut [U],
+    last: bool,
+) -> (DecoderResult, usize, usize)
+    requires some { 0 < length state.old.pending }
+    ensures kept { (state.new.bom ≡ state.old.bom) × (state.new.encoding ≡ state.old.encoding) }
+    ensures reports { Reports U.encode U.need U.query U.replacing
+        (decoding state.old.encoding state.old.pending) src.now dst.old dst.new last
+        result.0 result.1 result.2 (decoding state.old.encoding state.new.pending) }
+    ensures free { LeavesFree U.need state.old.pending src.now (length dst.old) result.0 result.2 }
+{
+    let _length = U::replacement_length();
+    let mut inner = Inner::new(state.encoding);
+    let (held, count) = state.pending.bytes();
+    let held = &held[..count];
+    let (result, read, written) = U::decode(&mut inner, held, dst, false);
+    if !is_all_read(&result) {
+        let rest = inner.pending_length() + (count - read);
+        state.pending = Pending::suffix(held, rest);
+        return (with_rest(result, rest), 0, written);
+    }
+    if let Some(result) = stop::<U>(&inner, src, dst.len() - written, last) {
+        state.pending = kept(&inner, held, &[]);
+        return (result, 0, written);
+    }
+    let (result, read, more) = U::decode(&mut inner, src, &mut dst[written..], last);
+    state.pending = kept(&inner, held, &src[..read]);
+    (result, read, written + more)
+}
+
+/// Decodes with no mark looked for.
+#[inline(always)]
+fn decode_decided<U: Output>(
+    state: &mut State,
+    src: &[u8],
+    dst: &mut [U],
+    last: bool,
+) -> (DecoderResult, usize, usize)
+    ensures kept { (state.new.bom ≡ state.old.bom) × (state.new.encoding ≡ state.old.encoding) }
+    ensures reports { Reports U.encode U.need U.query U.replacing
+        (decoding state.old.encoding state.old.pending) src.now dst.old dst.new last
+        result.0 result.1 result.2 (decoding state.old.encoding state.new.pending) }
+    ensures free { LeavesFree U.need state.old.pending src.now (length dst.old) result.0 result.2 }
+{
+    if state.pending.is_empty() {
+        return decode_neutral::<U>(state, src, dst, last);
+    }
+    decode_pending::<U>(state, src, dst, last)
+}
+
+/// Decodes, and reports malformed sequences. Returns what ended the call, how many bytes of `src` it read and how many
+/// code units it wrote.
+#[inline(always)]
+pub(crate) fn decode<U: Output>(
+    state: &mut State,
+    src: &[u8],
+    dst: &mut [U],
+    last: bool,
+) -> (DecoderResult, usize, usize)
+    requires undecided { IsUndecided state.old.bom state.old.encoding state.old.pending }
+    ensures undecided { IsUndecided state.new.bom state.new.encoding state.new.pending }
+    ensures reports { Reports U.encode U.need U.query U.replacing (shown state.old) src.now
+        dst.old dst.new last result.0 result.1 result.2 (shown state.new) }
+    ensures free { LeavesFree U.need state.old.pending src.now (length dst.old) result.0 result.2 }
+{
+    let _length = U::replacement_length();
+    let sniffed = sniff(state, src, last);
+    if is_at_end(state.bom, sniffed, src.len()) {
+        return (DecoderResult::InputEmpty, sniffed, 0);
+    }
+    let (result, read, written) = decode_decided::<U>(state, &src[sniffed..], dst, last);
+    (result, sniffed + read, written)
+}

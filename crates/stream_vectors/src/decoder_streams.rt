@@ -1,0 +1,171 @@
+//! The decoder over the vectors, with every set of cuts and into every short destination.
+
+use crate::decoder_vectors::{ROWS, Row, row_of};
+use encoding_streams::decoder::Decoder;
+use encoding_streams::encoding::{BomHandling, CoderResult, Encoding};
+
+/// How many calls a piece takes at most.
+const CALLS: usize = 32;
+
+/// What calls of a decoder wrote, as code units of UTF-16, and how many malformed sequences they replaced.
+#[derive(Drop)]
+struct Chain {
+    decoder: Decoder,
+    units: [u16; 8],
+    count: usize,
+    replaced: usize,
+}
+
+impl Chain {
+    fn push(&mut self, unit: u16) {
+        if let Some(slot) = self.units.get_mut(self.count) {
+            *slot = unit;
+        }
+        self.count = self.count.saturating_add(1);
+    }
+
+    /// Decodes to UTF-16. Returns the number of bytes read, and whether the call ended with `InputEmpty`, or `None` if
+    /// more was written.
+    fn call_utf16(&mut self, src: &[u8], room: usize, last: bool) -> Option<(usize, bool)> {
+        let mut dst = [0x71; 8];
+        let space = dst.get_mut(..room)?;
+        let (result, read, written, replaced) = self.decoder.decode_to_utf16(src, space, last);
+        for unit in dst.get(..written)? {
+            self.push(*unit);
+        }
+        self.replaced = self.replaced.saturating_add(replaced);
+        let unchanged = dst.iter().skip(written).all(|unit| *unit == 0x71);
+        unchanged.then_some((read, result == CoderResult::InputEmpty))
+    }
+
+    /// Decodes to UTF-8. Returns the number of bytes read, and whether the call ended with `InputEmpty`, or `None` if what
+    /// is written is no text, or more was written.
+    fn call_utf8(&mut self, src: &[u8], room: usize, last: bool) -> Option<(usize, bool)> {
+        let mut dst = [0x71; 8];
+        let space = dst.get_mut(..room)?;
+        let (result, read, written, replaced) = self.decoder.decode_to_utf8(src, space, last);
+        for unit in std::str::from_utf8(dst.get(..written)?)
+            .ok()?
+            .encode_utf16()
+        {
+            self.push(unit);
+        }
+        self.replaced = self.replaced.saturating_add(replaced);
+        let unchanged = dst.iter().skip(written).all(|byte| *byte == 0x71);
+        unchanged.then_some((read, result == CoderResult::InputEmpty))
+    }
+
+    /// Passes a piece until `InputEmpty` is returned. A call that makes no progress is followed by one into four units.
+    /// Returns whether all of it is read then.
+    fn reads(&mut self, piece: &[u8], last: bool, room: usize, to_utf8: bool) -> bool {
+        let mut unread = piece;
+        let mut rejected = false;
+        for _ in 0..CALLS {
+            let count = self.count;
+            let space = if rejected { 4 } else { room };
+            let called = if to_utf8 {
+                self.call_utf8(unread, space, last)
+            } else {
+                self.call_utf16(unread, space, last)
+            };
+            let Some((read, ended)) = called else {
+                return false;
+            };
+            let Some(rest) = unread.get(read..) else {
+                return false;
+            };
+            if ended {
+                return rest.is_empty();
+            }
+            rejected = read == 0 && self.count == count;
+            unread = rest;
+        }
+        false
+    }
+}
+
+/// Returns a decoder of a new stream.
+fn new_decoder(encoding: Encoding, bom: BomHandling) -> Decoder {
+    match bom {
+        BomHandling::Off => encoding.new_decoder_without_bom_handling(),
+        BomHandling::Remove => encoding.new_decoder_with_bom_removal(),
+        BomHandling::Sniff => encoding.new_decoder(),
+    }
+}
+
+/// Returns whether the bytes of a row, cut at each index whose bit is set, are decoded to its text, and nothing is pending
+/// then.
+fn decodes_to(row: &Row, cuts: u32, room: usize, to_utf8: bool) -> bool {
+    let (Some(bytes), Some(units)) = (row.bytes.get(..row.length), row.units.get(..row.count))
+    else {
+        return false;
+    };
+    let mut chain = Chain {
+        decoder: new_decoder(row.encoding, row.bom),
+        units: [0; 8],
+        count: 0,
+        replaced: 0,
+    };
+    let mut cuts = cuts;
+    let mut rest = bytes;
+    for place in 1..bytes.len() {
+        let start = bytes.len().saturating_sub(rest.len());
+        if cuts % 2 == 1 {
+            let (Some(piece), Some(following)) = (bytes.get(start..place), bytes.get(place..))
+            else {
+                return false;
+            };
+            if !chain.reads(piece, false, room, to_utf8) {
+                return false;
+            }
+            rest = following;
+        }
+        cuts /= 2;
+    }
+    let (_, pending) = chain.decoder.pending();
+    let read = chain.reads(rest, true, room, to_utf8);
+    read && chain.units.get(..chain.count) == Some(units)
+        && chain.replaced == row.replaced
+        && chain.decoder.encoding() == row.decided
+        && chain.decoder.bom_handling() == BomHandling::Off
+        && pending <= 3
+}
+
+/// Returns the number of sets of cuts between two bytes.
+fn cut_sets(length: usize) -> u32 {
+    let mut sets = 1u32;
+    for _ in 1..length {
+        sets = sets.saturating_mul(2);
+    }
+    sets
+}
+
+/// Returns whether the bytes of each row, with every set of cuts and into destinations of every length below `rooms`, are
+/// decoded to their text.
+fn come_as_text(rooms: usize, to_utf8: bool) -> bool {
+    let mut rows = 0usize;
+    for line in ROWS.lines() {
+        let Some(row) = row_of(line) else {
+            return false;
+        };
+        for cuts in 0..cut_sets(row.length) {
+            for room in 0..rooms {
+                if !decodes_to(&row, cuts, room, to_utf8) {
+                    return false;
+                }
+            }
+        }
+        rows = rows.saturating_add(1);
+    }
+    rows == 216
+}
+
+#[test]
+fn every_cut_to_utf16(rt: HostRuntime) {
+    assert!(rt; come_as_text(6, false));
+}
+
+#[test]
+fn every_cut_to_utf8(rt: HostRuntime) {
+    assert!(rt; come_as_text(6, true));
+}
