@@ -1,7 +1,7 @@
 /*
- * The six functions of C that utf8_repair calls apart from those of the C library, for ARM64: the toolchain has them only
- * for x86-64. Each does what the toolchain's declaration says, which the proofs take as given. No proof covers this file;
- * tests/arm/run checks the program that it is linked into.
+ * The six functions of C that utf8_repair and utf8_check call apart from those of the C library, for ARM64: the toolchain has
+ * them only for x86-64. Each does what the toolchain's declaration says, which the proofs take as given. No proof covers this
+ * file; tests/arm/run checks the programs that it is linked into.
  */
 #include <errno.h>
 #include <stdbool.h>

@@ -25,9 +25,11 @@
  * - A function checks its preconditions on lengths and contents. If one is violated, the function changes nothing in
  *   memory. It returns a value that no other call of the function returns:
  *   - a size_t is ENCODING_TEXT_INVALID_ARGUMENT, a uint8_t is ENCODING_TEXT_INVALID_ARGUMENT_U8;
- *   - in encoding_text_progress, `read` and `written` are ENCODING_TEXT_INVALID_ARGUMENT;
+ *   - in encoding_text_progress, `read` and `written` are ENCODING_TEXT_INVALID_ARGUMENT, as in
+ *     encoding_text_counted_progress, whose `replaced` is 0;
  *   - in encoding_text_encode_result and encoding_text_decode_run_result, `result` is
  *     ENCODING_TEXT_INVALID_ARGUMENT_U8, and the rest is 0;
+ *   - in encoding_text_search_block_result, `read` and `found` are ENCODING_TEXT_INVALID_ARGUMENT;
  *   - in encoding_text_repair_result, `written` is ENCODING_TEXT_INVALID_ARGUMENT and `replaced` is 0.
  * - Functions that return void, bool or another structure check no precondition.
  * - The `_unchecked` functions don't check that a source is well-formed. If it isn't, the behaviour is undefined.
@@ -298,6 +300,22 @@ encoding_text_progress encoding_text_mem_convert_utf8_to_utf16_without_replaceme
 encoding_text_progress encoding_text_mem_convert_utf16_to_utf8_partial(const uint16_t *src, size_t src_length,
                                                                        uint8_t *dst, size_t dst_length);
 
+/** How much a conversion read and wrote, and how many unpaired surrogates it replaced. */
+typedef struct {
+    size_t read;     /**< code units of the source */
+    size_t written;  /**< bytes of the destination */
+    size_t replaced; /**< the number of unpaired surrogates among those units: U+FFFD is written for each */
+} encoding_text_counted_progress;
+
+/** Converts as encoding_text_mem_convert_utf16_to_utf8_partial does, and counts the unpaired surrogates that it replaces.
+ * @param src,src_length the source, in code units.
+ * @param dst,dst_length the destination, in bytes.
+ * @return how much was read, written and replaced */
+encoding_text_counted_progress encoding_text_mem_convert_utf16_to_utf8_partial_with_count(const uint16_t *src,
+                                                                                          size_t src_length,
+                                                                                          uint8_t *dst,
+                                                                                          size_t dst_length);
+
 /** Converts all of src, with U+FFFD for each unpaired surrogate.
  * @param src,src_length the source, in code units.
  * @param dst,dst_length the destination, in bytes.
@@ -424,6 +442,15 @@ encoding_text_progress encoding_text_encode_utf16be(const uint16_t *src, size_t 
  * (`convert_latin1_to_str`) */
 encoding_text_progress encoding_text_mem_convert_utf16_to_str_partial(const uint16_t *src, size_t src_length,
                                                                       uint8_t *dst, size_t dst_length);
+/** Converts as encoding_text_mem_convert_utf16_to_str_partial does, and counts the unpaired surrogates that it replaces.
+ * @param src,src_length the source, in code units.
+ * @param dst,dst_length the destination, in bytes.
+ * @return how much was read, written and replaced; ENCODING_TEXT_INVALID_ARGUMENT as `read` and `written` if dst isn't
+ * well-formed */
+encoding_text_counted_progress encoding_text_mem_convert_utf16_to_str_partial_with_count(const uint16_t *src,
+                                                                                         size_t src_length,
+                                                                                         uint8_t *dst,
+                                                                                         size_t dst_length);
 /** @copydoc encoding_text_mem_convert_utf16_to_str_partial */
 size_t encoding_text_mem_convert_utf16_to_str(const uint16_t *src, size_t src_length, uint8_t *dst, size_t dst_length);
 /** @copydoc encoding_text_mem_convert_utf16_to_str_partial */
@@ -550,6 +577,186 @@ encoding_text_piece encoding_text_utf8_decoder_decode_borrowed(encoding_text_utf
 
 /** @} */
 
+/** @name The streaming decoder of UTF-16LE and UTF-16BE (Encoding Standard, shared UTF-16 decoder)
+ * @{ */
+
+#define ENCODING_TEXT_UTF16_DECODER_SIZE 5      /**< of encoding_text_utf16_decoder, in bytes */
+#define ENCODING_TEXT_UTF16_DECODER_ALIGNMENT 1 /**< of encoding_text_utf16_decoder, in bytes */
+
+/** The state of a UTF-16 decoder between calls, in the caller's storage. The first `count` bytes of `pending`, one to
+ * three, are a high surrogate, the first byte of a code unit, or both; the bytes after them don't matter. With any other
+ * `pending` and `count` (for example all zero) nothing is pending, as in a new decoder. */
+typedef struct {
+    uint8_t pending[3]; /**< the start of a character */
+    uint8_t count;      /**< its length in bytes */
+    uint8_t big_endian; /**< 0 for UTF-16LE, any other number for UTF-16BE */
+} encoding_text_utf16_decoder;
+
+/** The result of a call of a UTF-16 decoder. */
+typedef struct {
+    size_t read;              /**< elements of the source */
+    size_t written;           /**< elements of the destination */
+    uint8_t result;           /**< ENCODING_TEXT_INPUT_EMPTY, ENCODING_TEXT_OUTPUT_FULL or ENCODING_TEXT_MALFORMED */
+    uint8_t malformed_length; /**< length in bytes of the malformed sequence reported, 1 to 3, or 0 if none is */
+    uint8_t read_after;       /**< bytes read after the malformed sequence, 0 or 1: they stay pending */
+} encoding_text_decoder_result;
+
+/** Initialises a UTF-16 decoder, with nothing pending.
+ * @param decoder storage with any contents.
+ * @param big_endian whether the bytes are UTF-16BE, and not UTF-16LE */
+void encoding_text_utf16_decoder_new(encoding_text_utf16_decoder *decoder, bool big_endian);
+
+/** @param decoder the decoder, in the caller's storage.
+ * @return whether nothing is pending */
+bool encoding_text_utf16_decoder_in_neutral_state(const encoding_text_utf16_decoder *decoder);
+
+/** @param decoder the decoder, in the caller's storage.
+ * @param byte_length how many bytes will follow.
+ * @return the length of a destination that is large enough for the next byte_length bytes, in any number of calls, even
+ * if U+FFFD is written for each malformed sequence: with h half of byte_length, the pending bytes and one, h + 1 in
+ * UTF-16 and 3 * h + 1 in UTF-8. SIZE_MAX if that length, or the sum that h is half of, is greater. */
+size_t encoding_text_utf16_decoder_max_utf16_buffer_length(const encoding_text_utf16_decoder *decoder,
+                                                           size_t byte_length);
+/** @copydoc encoding_text_utf16_decoder_max_utf16_buffer_length */
+size_t encoding_text_utf16_decoder_max_utf8_buffer_length_without_replacement(
+    const encoding_text_utf16_decoder *decoder, size_t byte_length);
+/** @copydoc encoding_text_utf16_decoder_max_utf16_buffer_length */
+size_t encoding_text_utf16_decoder_max_utf8_buffer_length(const encoding_text_utf16_decoder *decoder,
+                                                          size_t byte_length);
+
+/** Decodes the next bytes. A malformed sequence is reported, and nothing is written for it: call again with the unread
+ * bytes. It is an unpaired surrogate or, at the end of the input, all that is pending. If dst has space for two code
+ * units (four bytes in UTF-8) and src isn't empty, the call reads or reports.
+ * @param decoder the decoder, in the caller's storage.
+ * @param src,src_length the source, in bytes.
+ * @param dst,dst_length the destination, in code units.
+ * @param last whether no more will follow.
+ * @return how much was read and written, and what ended the call */
+encoding_text_decoder_result encoding_text_utf16_decoder_decode_to_utf16(encoding_text_utf16_decoder *decoder,
+                                                                              const uint8_t *src, size_t src_length,
+                                                                              uint16_t *dst, size_t dst_length,
+                                                                              bool last);
+/** @copydoc encoding_text_utf16_decoder_decode_to_utf16 */
+encoding_text_decoder_result encoding_text_utf16_decoder_decode_to_utf8(encoding_text_utf16_decoder *decoder,
+                                                                             const uint8_t *src, size_t src_length,
+                                                                             uint8_t *dst, size_t dst_length,
+                                                                             bool last);
+
+/** @} */
+
+/** @name The streaming decoder with byte order marks and replacement (Encoding Standard, "decode")
+ * encoding_text_decoder decodes UTF-8, UTF-16LE or UTF-16BE. encoding_text_utf8_decoder, above, decodes UTF-8 alone, and
+ * the macros ENCODING_TEXT_DECODER_ are about that one.
+ * @{ */
+
+/* The `encoding` of a decoder. */
+#define ENCODING_TEXT_UTF_8 0    /**< UTF-8 */
+#define ENCODING_TEXT_UTF_16LE 1 /**< UTF-16LE */
+#define ENCODING_TEXT_UTF_16BE 2 /**< UTF-16BE, as any greater number */
+
+/* The `bom` of a decoder: which byte order marks it looks for at the start, and removes. */
+#define ENCODING_TEXT_BOM_OFF 0    /**< none: U+FEFF is a character like any other */
+#define ENCODING_TEXT_BOM_REMOVE 1 /**< that of its encoding */
+#define ENCODING_TEXT_BOM_SNIFF 2  /**< that of any of the three, which decides the encoding; as any greater number */
+
+#define ENCODING_TEXT_STREAM_DECODER_SIZE 6      /**< of encoding_text_decoder, in bytes */
+#define ENCODING_TEXT_STREAM_DECODER_ALIGNMENT 1 /**< of encoding_text_decoder, in bytes */
+
+/** The state of a decoder between calls, in the caller's storage. The first `count` bytes of `pending`, one to three, were
+ * read and are still to be decoded; the bytes after them don't matter. While a mark is looked for they are the start of
+ * one. With any other `pending` and `count` (for example all zero) nothing is pending. */
+typedef struct {
+    uint8_t pending[3]; /**< bytes that are still to be decoded */
+    uint8_t count;      /**< their number */
+    uint8_t encoding;   /**< ENCODING_TEXT_UTF_8, ENCODING_TEXT_UTF_16LE or ENCODING_TEXT_UTF_16BE */
+    uint8_t bom;        /**< ENCODING_TEXT_BOM_OFF (also after the start), _REMOVE or _SNIFF */
+} encoding_text_decoder;
+
+/** The result of a call that writes U+FFFD for each malformed sequence. */
+typedef struct {
+    size_t read;     /**< elements of the source */
+    size_t written;  /**< elements of the destination */
+    size_t replaced; /**< the number of malformed sequences that U+FFFD was written for */
+    uint8_t result;  /**< ENCODING_TEXT_INPUT_EMPTY or ENCODING_TEXT_OUTPUT_FULL */
+} encoding_text_coder_result;
+
+/** A byte order mark. */
+typedef struct {
+    size_t length;    /**< its length in bytes, 2 or 3; 0 if there is none */
+    uint8_t encoding; /**< its encoding; ENCODING_TEXT_UTF_8 if there is none */
+} encoding_text_bom;
+
+/** @param src,src_length the source, in bytes.
+ * @return the byte order mark that src starts with (Encoding Standard, "BOM sniff") */
+encoding_text_bom encoding_text_for_bom(const uint8_t *src, size_t src_length);
+
+/** Initialises a decoder, with nothing pending.
+ * @param decoder storage with any contents.
+ * @param encoding the encoding unless a mark decides it.
+ * @param bom which byte order marks are looked for */
+void encoding_text_decoder_new(encoding_text_decoder *decoder, uint8_t encoding, uint8_t bom);
+
+/** @param decoder the decoder, in the caller's storage.
+ * @return its encoding: that of a mark, once one is read */
+uint8_t encoding_text_decoder_encoding(const encoding_text_decoder *decoder);
+
+/** @param decoder the decoder, in the caller's storage.
+ * @return whether nothing is pending and no mark is looked for */
+bool encoding_text_decoder_in_neutral_state(const encoding_text_decoder *decoder);
+
+/** @param decoder the decoder, in the caller's storage.
+ * @param byte_length how many bytes will follow.
+ * @return the length of a destination that is large enough for the next byte_length bytes, in any number of calls: in
+ * UTF-16 even if U+FFFD is written for each malformed sequence, in UTF-8 without that, and in UTF-8 with it. SIZE_MAX
+ * if that length is SIZE_MAX or more. */
+size_t encoding_text_decoder_max_utf16_buffer_length(const encoding_text_decoder *decoder, size_t byte_length);
+/** @copydoc encoding_text_decoder_max_utf16_buffer_length */
+size_t encoding_text_decoder_max_utf8_buffer_length_without_replacement(const encoding_text_decoder *decoder,
+                                                                        size_t byte_length);
+/** @copydoc encoding_text_decoder_max_utf16_buffer_length */
+size_t encoding_text_decoder_max_utf8_buffer_length(const encoding_text_decoder *decoder, size_t byte_length);
+
+/** @param decoder the decoder, in the caller's storage.
+ * @param src,src_length the bytes that will follow.
+ * @return the length of their longest ASCII prefix, each byte of which decodes to one character;
+ * ENCODING_TEXT_INVALID_ARGUMENT unless the encoding is UTF-8, nothing is pending and no mark is looked for */
+size_t encoding_text_decoder_latin1_byte_compatible_up_to(const encoding_text_decoder *decoder, const uint8_t *src,
+                                                          size_t src_length);
+
+/** Decodes the next bytes, with U+FFFD for each malformed sequence. Only whole characters are written. If dst has space
+ * for two code units (four bytes in UTF-8) and src isn't empty, the call reads or writes.
+ * @param decoder the decoder, in the caller's storage.
+ * @param src,src_length the source, in bytes.
+ * @param dst,dst_length the destination, in code units.
+ * @param last whether no more will follow.
+ * @return how much was read, written and replaced, and what ended the call */
+encoding_text_coder_result encoding_text_decoder_decode_to_utf16(encoding_text_decoder *decoder, const uint8_t *src,
+                                                                 size_t src_length, uint16_t *dst, size_t dst_length,
+                                                                 bool last);
+/** @copydoc encoding_text_decoder_decode_to_utf16 */
+encoding_text_coder_result encoding_text_decoder_decode_to_utf8(encoding_text_decoder *decoder, const uint8_t *src,
+                                                                size_t src_length, uint8_t *dst, size_t dst_length,
+                                                                bool last);
+
+/** Decodes the next bytes. A malformed sequence is reported, and nothing is written for it: call again with the unread
+ * bytes. If dst has space for two code units (four bytes in UTF-8) and src isn't empty, the call reads or reports.
+ * @param decoder the decoder, in the caller's storage.
+ * @param src,src_length the source, in bytes.
+ * @param dst,dst_length the destination, in code units.
+ * @param last whether no more will follow.
+ * @return how much was read and written, and what ended the call */
+encoding_text_decoder_result encoding_text_decoder_decode_to_utf16_without_replacement(encoding_text_decoder *decoder,
+                                                                                       const uint8_t *src,
+                                                                                       size_t src_length, uint16_t *dst,
+                                                                                       size_t dst_length, bool last);
+/** @copydoc encoding_text_decoder_decode_to_utf16_without_replacement */
+encoding_text_decoder_result encoding_text_decoder_decode_to_utf8_without_replacement(encoding_text_decoder *decoder,
+                                                                                      const uint8_t *src,
+                                                                                      size_t src_length, uint8_t *dst,
+                                                                                      size_t dst_length, bool last);
+
+/** @} */
+
 /** @name The streaming encoder (Encoding Standard, section 8.1.2)
  * @{ */
 
@@ -610,6 +817,31 @@ encoding_text_encode_result encoding_text_utf8_encoder_encode_from_utf16(encodin
 encoding_text_encode_result encoding_text_utf8_encoder_encode_from_utf8(encoding_text_utf8_encoder *encoder,
                                                                         const uint8_t *src, size_t src_length,
                                                                         uint8_t *dst, size_t dst_length, bool last);
+
+/** Encodes as encoding_text_utf8_encoder_encode_from_utf16 does, and counts the unpaired surrogates that are replaced with
+ * U+FFFD. One that became pending in an earlier call counts in the call that replaces it.
+ * @param encoder the encoder, in the caller's storage.
+ * @param src,src_length the source, in code units.
+ * @param dst,dst_length the destination, in bytes.
+ * @param last whether no more will follow.
+ * @return how much was read, written and replaced, and what ended the call */
+encoding_text_coder_result encoding_text_utf8_encoder_encode_from_utf16_with_count(encoding_text_utf8_encoder *encoder,
+                                                                                   const uint16_t *src,
+                                                                                   size_t src_length, uint8_t *dst,
+                                                                                   size_t dst_length, bool last);
+
+/** Encodes as encoding_text_utf8_encoder_encode_from_utf8 does. `replaced` is 1 if U+FFFD is written for a pending
+ * surrogate, and else 0.
+ * @param encoder the encoder, in the caller's storage.
+ * @param src,src_length the source, in bytes.
+ * @param dst,dst_length the destination, in bytes.
+ * @param last whether no more will follow.
+ * @return how much was read, written and replaced, and what ended the call: ENCODING_TEXT_INVALID_ARGUMENT_U8 if src isn't
+ * well-formed */
+encoding_text_coder_result encoding_text_utf8_encoder_encode_from_utf8_with_count(encoding_text_utf8_encoder *encoder,
+                                                                                  const uint8_t *src,
+                                                                                  size_t src_length, uint8_t *dst,
+                                                                                  size_t dst_length, bool last);
 
 /** @} */
 
@@ -721,6 +953,56 @@ typedef struct {
  * @return the first malformed sequence of src, as encoding_text_next_malformed, and why it is malformed. If src is
  * well-formed, `length` is 0, `place` is src_length and `kind` is ENCODING_TEXT_WELL_FORMED */
 encoding_text_malformation encoding_text_next_malformation(const uint8_t *src, size_t src_length);
+
+/** @} */
+
+/** @name Malformed sequences of a stream
+ * @{ */
+
+#define ENCODING_TEXT_MALFORMED_SEARCH_SIZE 16     /**< of encoding_text_malformed_search, in bytes */
+#define ENCODING_TEXT_MALFORMED_SEARCH_ALIGNMENT 8 /**< of encoding_text_malformed_search, in bytes */
+
+/** The state of a search between blocks, in the caller's storage. The first `count` bytes of `pending`, one to three, are
+ * an incomplete sequence; the bytes after them don't matter. With any other `pending` and `count` (for example all zero)
+ * nothing is pending. */
+typedef struct {
+    uint64_t start;     /**< the offset of the first pending byte, or of the next byte if nothing is pending */
+    uint8_t pending[3]; /**< the start of a character */
+    uint8_t count;      /**< its length in bytes */
+} encoding_text_malformed_search;
+
+/** A malformed sequence of a stream, and why it is malformed. */
+typedef struct {
+    uint64_t offset; /**< the offset of its first byte from the start of the stream */
+    uint8_t length;  /**< its length in bytes, 1 to 3 */
+    uint8_t kind;    /**< ENCODING_TEXT_UNEXPECTED_CONTINUATION to ENCODING_TEXT_INCOMPLETE_AT_END */
+} encoding_text_stream_malformation;
+
+/** The result of a search of a block. */
+typedef struct {
+    size_t read;   /**< bytes of the block */
+    size_t found;  /**< the number of malformed sequences that are stored */
+    bool finished; /**< whether the whole block was read and, if none follows it, nothing is pending */
+} encoding_text_search_block_result;
+
+/** Initialises a search, with nothing pending.
+ * @param search storage with any contents.
+ * @param offset the offset of the next byte: 0 at the start of a stream */
+void encoding_text_malformed_search_new(encoding_text_malformed_search *search, uint64_t offset);
+
+/** Stores the malformed sequences of the next block of a stream, in order. If the call isn't finished, `found` is full:
+ * call again with the unread bytes. An array of one element is enough to make progress. However the stream is split into
+ * blocks and arrays, all calls store exactly the malformed sequences of the whole stream.
+ * @param search the search, in the caller's storage.
+ * @param src,src_length the source, in bytes.
+ * @param found,found_length the array for the malformed sequences, in elements.
+ * @param last whether no more will follow. Then an incomplete sequence at the end is malformed.
+ * @return how much was read and stored; ENCODING_TEXT_INVALID_ARGUMENT as both, and not finished, if the offset of the
+ * byte after src is greater than UINT64_MAX */
+encoding_text_search_block_result encoding_text_search_block(encoding_text_malformed_search *search, const uint8_t *src,
+                                                             size_t src_length,
+                                                             encoding_text_stream_malformation *found,
+                                                             size_t found_length, bool last);
 
 /** @} */
 

@@ -88,6 +88,33 @@ private:
     std::size_t count = 0;
 };
 
+/* The type of the elements of an object that std::data accepts, const if they can't be written. */
+template <class Buffer>
+using element_of_buffer = std::remove_pointer_t<decltype(std::data(std::declval<std::remove_reference_t<Buffer> &>()))>;
+
+/* A span of contiguous elements, which the C functions write. */
+template <class Unit, template <class> class IsUnit> class writable {
+public:
+    constexpr writable() noexcept = default;
+
+    template <class T, class = std::enable_if_t<IsUnit<T>::value>>
+    writable(T *buffer, std::size_t length) noexcept : first(reinterpret_cast<Unit *>(buffer)), count(length)
+    {
+    }
+
+    template <class Buffer, class = std::enable_if_t<IsUnit<element_of_buffer<Buffer>>::value>>
+    writable(Buffer &&buffer) noexcept : writable(std::data(buffer), std::size(buffer))
+    {
+    }
+
+    constexpr Unit *data() const noexcept { return first; }
+    constexpr std::size_t size() const noexcept { return count; }
+
+private:
+    Unit *first = nullptr;
+    std::size_t count = 0;
+};
+
 /* Appends what `write` writes to `most` elements at the end of a string; `write` returns its length. If the allocation
  * fails, the string is unchanged. */
 template <class String, class Write> void append(String &text, std::size_t most, Write write)
@@ -100,6 +127,34 @@ template <class String, class Write> void append(String &text, std::size_t most,
     text.resize(end + write(text.data() + end));
 #endif
 }
+
+constexpr std::size_t room_for_pending = 16;
+
+/* Restores a string and a decoder, unless both are kept. */
+template <class String, class Decoder> class extension {
+public:
+    extension(String &text, Decoder &decoder) noexcept
+        : extended(text), old_length(text.size()), changed(decoder), old_decoder(decoder)
+    {
+    }
+    extension(const extension &) = delete;
+    extension &operator=(const extension &) = delete;
+    ~extension()
+    {
+        if (!is_kept) {
+            extended.resize(old_length);
+            changed = old_decoder;
+        }
+    }
+    void keep() noexcept { is_kept = true; }
+
+private:
+    String &extended;
+    const std::size_t old_length;
+    Decoder &changed;
+    const Decoder old_decoder;
+    bool is_kept = false;
+};
 
 inline std::uint8_t *units(char *text) noexcept
 {
@@ -121,9 +176,16 @@ class bytes {};
 /** Code units that a call reads: `std::u16string_view`, or any class with contiguous `char16_t` or `std::uint16_t`; a
  * literal up to its NUL; a pointer and a length. */
 class code_units {};
+/** Bytes that a call writes: an array or any class with contiguous `char`, `unsigned char`, `std::byte` or `char8_t` that
+ * aren't const, such as `std::array`, `std::vector`, `std::string` or `std::span`; a pointer and a length. */
+class writable_bytes {};
+/** Code units that a call writes: the same, of `char16_t` or `std::uint16_t`. */
+class writable_code_units {};
 #else
 using bytes = detail::view<std::uint8_t, char, detail::is_byte>;
 using code_units = detail::view<std::uint16_t, char16_t, detail::is_code_unit>;
+using writable_bytes = detail::writable<std::uint8_t, detail::is_byte>;
+using writable_code_units = detail::writable<std::uint16_t, detail::is_code_unit>;
 #endif
 
 /** @name Validation
@@ -347,6 +409,28 @@ inline std::string convert_utf16_to_utf8(code_units text)
     return result;
 }
 
+/** A text converted from UTF-16. */
+struct converted_text {
+    std::string text;     /**< well-formed */
+    std::size_t replaced; /**< the number of unpaired surrogates that U+FFFD is written for */
+};
+
+/** Converts UTF-16 to UTF-8, and counts the unpaired surrogates.
+ * @param text the code units.
+ * @return their UTF-8, with U+FFFD for each unpaired surrogate, and the number of these */
+inline converted_text convert_utf16_to_utf8_with_count(code_units text)
+{
+    converted_text result = {std::string(), 0};
+    const std::size_t length = encoding_text_mem_utf8_length_from_utf16(text.data(), text.size());
+    detail::append(result.text, length, [&](char *dst) {
+        const auto done = encoding_text_mem_convert_utf16_to_utf8_partial_with_count(text.data(), text.size(),
+                                                                                     detail::units(dst), length);
+        result.replaced = done.replaced;
+        return done.written;
+    });
+    return result;
+}
+
 /** Converts Latin1 to UTF-8.
  * @param text the bytes, each a scalar value.
  * @return their UTF-8 */
@@ -403,6 +487,53 @@ inline std::optional<std::string> convert_utf16_to_latin1(code_units text)
     });
     return result;
 }
+
+/** @} */
+
+/** @name Malformed sequences of a stream
+ * @{ */
+
+/** A malformed sequence of a stream, and why it is malformed. */
+struct stream_malformation {
+    std::uint64_t offset;   /**< the offset of its first byte from the start of the stream */
+    std::size_t length;     /**< its length in bytes, 1 to 3 */
+    malformation_kind kind; /**< why it is malformed */
+};
+
+/** A search for the malformed sequences of a stream, by blocks, which may end at any byte. It allocates no memory. However
+ * the stream is split, it finds those of the whole stream. */
+class malformed_search {
+public:
+    /** Starts with the byte at this offset of a stream.
+     * @param offset the offset */
+    explicit malformed_search(std::uint64_t offset = 0) noexcept { encoding_text_malformed_search_new(&state, offset); }
+
+    /** Searches the next block.
+     * @param src the bytes.
+     * @param last whether no more will follow. Then an incomplete sequence at the end is malformed.
+     * @param found is called with each malformed sequence, a stream_malformation, in order.
+     * @return whether the block was searched; false if the offset of the byte after it is too large, and then nothing is
+     * read */
+    template <class Found> bool search(bytes src, bool last, Found found)
+    {
+        encoding_text_search_block_result done;
+        do {
+            encoding_text_stream_malformation some[16];
+            done = encoding_text_search_block(&state, src.data(), src.size(), some, sizeof some / sizeof *some, last);
+            if (done.read == ENCODING_TEXT_INVALID_ARGUMENT) {
+                return false;
+            }
+            for (std::size_t i = 0; i < done.found; i++) {
+                found(stream_malformation{some[i].offset, some[i].length, static_cast<malformation_kind>(some[i].kind)});
+            }
+            src = src.from(done.read);
+        } while (!done.finished);
+        return true;
+    }
+
+private:
+    encoding_text_malformed_search state;
+};
 
 /** @} */
 
@@ -465,6 +596,55 @@ inline repaired_text repair(bytes text)
 /** @name The incremental decoder (Encoding Standard, section 8.1.1)
  * @{ */
 
+/** @cond */
+namespace detail {
+
+inline std::size_t write_replacement(std::uint8_t *dst) noexcept
+{
+    std::memcpy(dst, "\xEF\xBF\xBD", replacement_length);
+    return replacement_length;
+}
+
+inline std::size_t write_replacement(std::uint16_t *dst) noexcept
+{
+    *dst = 0xFFFD;
+    return 1;
+}
+
+/* How many bytes of a stream were read, and the last three of these. */
+class position {
+public:
+    void advance(bytes read) noexcept
+    {
+        for (std::size_t i = read.size() - (read.size() < longest ? read.size() : longest); i < read.size(); i++) {
+            std::memmove(last, last + 1, longest - 1);
+            last[longest - 1] = read.data()[i];
+        }
+        offset += read.size();
+    }
+
+    /* The malformed sequence of this length that ends here, before the unread bytes. */
+    malformation malformed(std::size_t length, bytes unread) const noexcept
+    {
+        std::uint8_t sequence[longest + 1];
+        std::memcpy(sequence, last + longest - length, length);
+        std::size_t count = length;
+        if (unread.size() > 0) {
+            sequence[count++] = unread.data()[0];
+        }
+        return {offset - length, length, next_malformation(bytes(sequence, count)).kind};
+    }
+
+private:
+    static constexpr std::size_t longest = 3; /* bytes of a malformed sequence */
+
+    std::size_t offset = 0;
+    std::uint8_t last[longest] = {};
+};
+
+} // namespace detail
+/** @endcond */
+
 /** A decoder of UTF-8 in pieces, which may end at any byte. Between calls it keeps up to three bytes of an incomplete
  * sequence. However the bytes are split, the text is that of all of them together. */
 class utf8_decoder {
@@ -476,10 +656,25 @@ public:
      * @return the number of malformed sequences */
     std::size_t decode(bytes src, std::u16string &text, bool last)
     {
-        std::size_t replaced = 0;
-        const std::size_t most = encoding_text_utf8_decoder_max_utf16_buffer_length(&state, src.size());
-        detail::append(text, most, [&](char16_t *dst) { return write(src, detail::units(dst), most, last, replaced); });
-        return replaced;
+        return decode(src, text, last, [](const malformation &) {});
+    }
+
+    /** Decodes as the function without `found` does.
+     * @param src the bytes.
+     * @param text the string that is appended to.
+     * @param last whether no more will follow.
+     * @param found is called with each malformed sequence, in order, after the memory is allocated: its offset from the
+     * start of the stream, its length and why it is malformed. It throws no exception.
+     * @return the number of malformed sequences */
+    template <class Found> std::size_t decode(bytes src, std::u16string &text, bool last, Found found)
+    {
+        return append(src, text, encoding_text_utf8_decoder_max_utf16_buffer_length(&state, src.size()), last, found);
+    }
+
+    /** @copydoc decode(bytes, std::u16string &, bool, Found) */
+    template <class Found> std::size_t decode(bytes src, std::string &text, bool last, Found found)
+    {
+        return append(src, text, encoding_text_utf8_decoder_max_utf8_buffer_length(&state, src.size()), last, found);
     }
 
     /** Decodes the next bytes, and appends them as UTF-8, with U+FFFD for each malformed sequence.
@@ -489,11 +684,12 @@ public:
      * @return the number of malformed sequences */
     std::size_t decode(bytes src, std::string &text, bool last)
     {
-        extension extended(text, state);
+        detail::extension extended(text, state);
+        const bytes all = src;
         std::size_t replaced = 0;
         encoding_text_repair_block_result done;
         do {
-            const std::size_t most = src.size() + src.size() / 8 + room_for_pending;
+            const std::size_t most = src.size() + src.size() / 8 + detail::room_for_pending;
             detail::append(text, most, [&](char *dst) {
                 done = encoding_text_repair_block(&state, src.data(), src.size(), detail::units(dst), most, last);
                 return done.written;
@@ -502,61 +698,349 @@ public:
             replaced += done.replaced;
         } while (!done.finished);
         extended.keep();
+        where.advance(all);
         return replaced;
     }
 
     /** @return whether the last call ended between two characters */
     bool in_neutral_state() const noexcept { return encoding_text_utf8_decoder_in_neutral_state(&state); }
 
-    /** Forgets an incomplete sequence. */
-    void reset() noexcept { encoding_text_utf8_decoder_new(&state); }
+    /** Forgets an incomplete sequence, and begins a stream. */
+    void reset() noexcept
+    {
+        encoding_text_utf8_decoder_new(&state);
+        where = {};
+    }
 
 private:
-    static constexpr std::size_t room_for_pending = 16;
+    encoding_text_decode_result step(bytes src, std::uint16_t *dst, std::size_t length, bool last) noexcept
+    {
+        return encoding_text_utf8_decoder_decode_to_utf16(&state, src.data(), src.size(), dst, length, last);
+    }
 
-    /* Restores the string and the decoder, unless both are kept. */
-    class extension {
-    public:
-        extension(std::string &text, encoding_text_utf8_decoder &decoder) noexcept
-            : extended(text), old_length(text.size()), changed(decoder), old_decoder(decoder)
-        {
-        }
-        extension(const extension &) = delete;
-        extension &operator=(const extension &) = delete;
-        ~extension()
-        {
-            if (!is_kept) {
-                extended.resize(old_length);
-                changed = old_decoder;
-            }
-        }
-        void keep() noexcept { is_kept = true; }
+    encoding_text_decode_result step(bytes src, std::uint8_t *dst, std::size_t length, bool last) noexcept
+    {
+        return encoding_text_utf8_decoder_decode_to_utf8(&state, src.data(), src.size(), dst, length, last);
+    }
 
-    private:
-        std::string &extended;
-        const std::size_t old_length;
-        encoding_text_utf8_decoder &changed;
-        const encoding_text_utf8_decoder old_decoder;
-        bool is_kept = false;
-    };
+    template <class String, class Found>
+    std::size_t append(bytes src, String &text, std::size_t most, bool last, Found &found)
+    {
+        std::size_t replaced = 0;
+        detail::append(text, most, [&](auto *dst) { return write(src, detail::units(dst), most, last, replaced, found); });
+        return replaced;
+    }
 
-    std::size_t write(bytes src, std::uint16_t *dst, std::size_t length, bool last, std::size_t &replaced) noexcept
+    template <class Unit, class Found>
+    std::size_t write(bytes src, Unit *dst, std::size_t length, bool last, std::size_t &replaced, Found &found)
     {
         std::size_t written = 0;
         for (;;) {
-            const auto done = encoding_text_utf8_decoder_decode_to_utf16(&state, src.data(), src.size(), dst + written,
-                                                                         length - written, last);
+            const auto done = step(src, dst + written, length - written, last);
+            where.advance(bytes(src.data(), done.read));
             src = src.from(done.read);
             written += done.written;
             if (done.result != ENCODING_TEXT_MALFORMED) {
                 return written;
             }
-            dst[written++] = 0xFFFD;
+            written += detail::write_replacement(dst + written);
             replaced++;
+            found(where.malformed(done.malformed_length, src));
         }
     }
 
     encoding_text_utf8_decoder state = {};
+    detail::position where;
+};
+
+/** @} */
+
+/** @name The incremental decoder of UTF-16LE and UTF-16BE (Encoding Standard, shared UTF-16 decoder)
+ * @{ */
+
+/** Why a call that writes into a span ended. */
+enum class decoder_result : std::uint8_t {
+    input_empty = ENCODING_TEXT_INPUT_EMPTY, /**< all was read; after the last call nothing is pending */
+    output_full = ENCODING_TEXT_OUTPUT_FULL, /**< the rest of the span may be too short for the next character */
+    malformed = ENCODING_TEXT_MALFORMED      /**< a malformed sequence was read, and nothing is written for it */
+};
+
+/** What a call did that writes into a span, and reports a malformed sequence. */
+struct decoded {
+    std::size_t read;             /**< bytes */
+    std::size_t written;          /**< elements of the span */
+    decoder_result result;        /**< what ended the call */
+    std::size_t malformed_length; /**< length in bytes of the malformed sequence, 1 to 3, or 0 if there is none */
+    std::size_t read_after;       /**< bytes read after that sequence, 0 or 1: they stay pending */
+};
+
+/** @cond */
+namespace detail {
+
+inline decoded decoded_of(const encoding_text_decoder_result &done) noexcept
+{
+    return {done.read, done.written, static_cast<decoder_result>(done.result), done.malformed_length, done.read_after};
+}
+
+} // namespace detail
+/** @endcond */
+
+/** A decoder of UTF-16LE or UTF-16BE in pieces, which may end at any byte. Between calls it keeps up to three bytes: a high
+ * surrogate, the first byte of a code unit, or both. However the bytes are split, the text is that of all of them
+ * together. */
+class utf16_decoder {
+public:
+    /** @param big_endian whether the bytes are UTF-16BE, and not UTF-16LE */
+    explicit utf16_decoder(bool big_endian) noexcept { encoding_text_utf16_decoder_new(&state, big_endian); }
+
+    /** Decodes the next bytes, and appends their UTF-16, with U+FFFD for each malformed sequence.
+     * @param src the bytes.
+     * @param text the string that is appended to.
+     * @param last whether no more will follow. Then all that is pending is malformed, and the decoder is new again.
+     * @return the number of malformed sequences */
+    std::size_t decode(bytes src, std::u16string &text, bool last)
+    {
+        return append(src, text, encoding_text_utf16_decoder_max_utf16_buffer_length(&state, src.size()), last);
+    }
+
+    /** Decodes the next bytes, and appends them as UTF-8, with U+FFFD for each malformed sequence.
+     * @param src the bytes.
+     * @param text the string that is appended to.
+     * @param last whether no more will follow. Then all that is pending is malformed, and the decoder is new again.
+     * @return the number of malformed sequences */
+    std::size_t decode(bytes src, std::string &text, bool last)
+    {
+        return append(src, text, encoding_text_utf16_decoder_max_utf8_buffer_length(&state, src.size()), last);
+    }
+
+    /** Decodes the next bytes to UTF-16, as many characters as fit. A malformed sequence ends the call, and nothing is
+     * written for it: call again with the unread bytes.
+     * @param src the bytes.
+     * @param dst the span that is written. If it has two code units, a call on some bytes reads or reports.
+     * @param last whether no more will follow.
+     * @return how much was read and written, and what ended the call */
+    decoded decode_without_replacement(bytes src, writable_code_units dst, bool last) noexcept
+    {
+        return detail::decoded_of(step(src, dst.data(), dst.size(), last));
+    }
+
+    /** Decodes the next bytes to UTF-8, as many characters as fit. A malformed sequence ends the call, and nothing is
+     * written for it: call again with the unread bytes.
+     * @param src the bytes.
+     * @param dst the span that is written. If it has four bytes, a call on some bytes reads or reports.
+     * @param last whether no more will follow.
+     * @return how much was read and written, and what ended the call */
+    decoded decode_without_replacement(bytes src, writable_bytes dst, bool last) noexcept
+    {
+        return detail::decoded_of(step(src, dst.data(), dst.size(), last));
+    }
+
+    /** @return whether the last call ended between two characters */
+    bool in_neutral_state() const noexcept { return encoding_text_utf16_decoder_in_neutral_state(&state); }
+
+    /** Forgets what is pending. */
+    void reset() noexcept { encoding_text_utf16_decoder_new(&state, state.big_endian != 0); }
+
+private:
+    encoding_text_decoder_result step(bytes src, std::uint16_t *dst, std::size_t length, bool last) noexcept
+    {
+        return encoding_text_utf16_decoder_decode_to_utf16(&state, src.data(), src.size(), dst, length, last);
+    }
+
+    encoding_text_decoder_result step(bytes src, std::uint8_t *dst, std::size_t length, bool last) noexcept
+    {
+        return encoding_text_utf16_decoder_decode_to_utf8(&state, src.data(), src.size(), dst, length, last);
+    }
+
+    template <class String> std::size_t append(bytes src, String &text, std::size_t most, bool last)
+    {
+        std::size_t replaced = 0;
+        detail::append(text, most, [&](auto *dst) { return write(src, detail::units(dst), most, last, replaced); });
+        return replaced;
+    }
+
+    template <class Unit>
+    std::size_t write(bytes src, Unit *dst, std::size_t length, bool last, std::size_t &replaced) noexcept
+    {
+        std::size_t written = 0;
+        for (;;) {
+            const auto done = step(src, dst + written, length - written, last);
+            src = src.from(done.read);
+            written += done.written;
+            if (done.result != ENCODING_TEXT_MALFORMED) {
+                return written;
+            }
+            written += detail::write_replacement(dst + written);
+            replaced++;
+        }
+    }
+
+    encoding_text_utf16_decoder state = {};
+};
+
+/** @} */
+
+/** @name The decoder with byte order marks (Encoding Standard, "decode")
+ * @{ */
+
+/** An encoding. */
+enum class encoding : std::uint8_t {
+    utf_8 = ENCODING_TEXT_UTF_8,       /**< UTF-8 */
+    utf_16le = ENCODING_TEXT_UTF_16LE, /**< UTF-16LE */
+    utf_16be = ENCODING_TEXT_UTF_16BE  /**< UTF-16BE */
+};
+
+/** Which byte order marks a decoder looks for at the start, and removes. */
+enum class bom_handling : std::uint8_t {
+    off = ENCODING_TEXT_BOM_OFF,       /**< none: U+FEFF is a character like any other */
+    remove = ENCODING_TEXT_BOM_REMOVE, /**< that of its encoding */
+    sniff = ENCODING_TEXT_BOM_SNIFF    /**< that of any of the three, which decides the encoding */
+};
+
+/** A byte order mark. */
+struct byte_order_mark {
+    encoding_text::encoding encoding; /**< its encoding */
+    std::size_t length;               /**< its length in bytes, 2 or 3 */
+};
+
+/** @param text the bytes.
+ * @return the byte order mark that they start with; `std::nullopt` if there is none */
+inline std::optional<byte_order_mark> for_bom(bytes text) noexcept
+{
+    const auto found = encoding_text_for_bom(text.data(), text.size());
+    return found.length == 0 ? std::nullopt
+                             : std::optional(byte_order_mark{static_cast<encoding>(found.encoding), found.length});
+}
+
+/** What a call did that writes into a span, with U+FFFD for each malformed sequence. */
+struct coded {
+    std::size_t read;      /**< bytes */
+    std::size_t written;   /**< elements of the span */
+    std::size_t replaced;  /**< the number of malformed sequences */
+    decoder_result result; /**< `input_empty` or `output_full` */
+};
+
+/** A decoder of UTF-8, UTF-16LE or UTF-16BE in pieces, which may end at any byte. Between calls it keeps up to three bytes
+ * of a character or of a byte order mark. However the bytes are split, the text is that of all of them together. After a
+ * last call it looks for no mark, until it is reset. */
+class decoder {
+public:
+    /** @param encoding the encoding, unless a mark decides it.
+     * @param bom which byte order marks it looks for */
+    explicit decoder(encoding_text::encoding encoding, bom_handling bom = bom_handling::sniff) noexcept
+        : first_encoding(encoding), first_bom(bom)
+    {
+        reset();
+    }
+
+    /** Decodes the next bytes, and appends their UTF-16, with U+FFFD for each malformed sequence.
+     * @param src the bytes.
+     * @param text the string that is appended to.
+     * @param last whether no more will follow. Then all that is pending is malformed.
+     * @return the number of malformed sequences */
+    std::size_t decode(bytes src, std::u16string &text, bool last) { return append(src, text, last); }
+
+    /** Decodes the next bytes, and appends them as UTF-8, with U+FFFD for each malformed sequence.
+     * @param src the bytes.
+     * @param text the string that is appended to.
+     * @param last whether no more will follow. Then all that is pending is malformed.
+     * @return the number of malformed sequences */
+    std::size_t decode(bytes src, std::string &text, bool last) { return append(src, text, last); }
+
+    /** Decodes the next bytes to UTF-16, as many characters as fit, with U+FFFD for each malformed sequence.
+     * @param src the bytes.
+     * @param dst the span that is written.
+     * @param last whether no more will follow.
+     * @return how much was read, written and replaced, and what ended the call */
+    coded decode(bytes src, writable_code_units dst, bool last) noexcept
+    {
+        return step(src, dst.data(), dst.size(), last);
+    }
+
+    /** Decodes the next bytes to UTF-8, as many characters as fit, with U+FFFD for each malformed sequence.
+     * @param src the bytes.
+     * @param dst the span that is written.
+     * @param last whether no more will follow.
+     * @return how much was read, written and replaced, and what ended the call */
+    coded decode(bytes src, writable_bytes dst, bool last) noexcept { return step(src, dst.data(), dst.size(), last); }
+
+    /** Decodes the next bytes to UTF-16, as many characters as fit. A malformed sequence ends the call, and nothing is
+     * written for it: call again with the unread bytes.
+     * @param src the bytes.
+     * @param dst the span that is written. If it has two code units, a call on some bytes reads or reports.
+     * @param last whether no more will follow.
+     * @return how much was read and written, and what ended the call */
+    decoded decode_without_replacement(bytes src, writable_code_units dst, bool last) noexcept
+    {
+        return detail::decoded_of(encoding_text_decoder_decode_to_utf16_without_replacement(
+            &state, src.data(), src.size(), dst.data(), dst.size(), last));
+    }
+
+    /** Decodes the next bytes to UTF-8, as many characters as fit. A malformed sequence ends the call, and nothing is
+     * written for it: call again with the unread bytes.
+     * @param src the bytes.
+     * @param dst the span that is written. If it has four bytes, a call on some bytes reads or reports.
+     * @param last whether no more will follow.
+     * @return how much was read and written, and what ended the call */
+    decoded decode_without_replacement(bytes src, writable_bytes dst, bool last) noexcept
+    {
+        return detail::decoded_of(encoding_text_decoder_decode_to_utf8_without_replacement(
+            &state, src.data(), src.size(), dst.data(), dst.size(), last));
+    }
+
+    /** @return the encoding: that of a mark, once one is read */
+    encoding_text::encoding current_encoding() const noexcept
+    {
+        return static_cast<encoding_text::encoding>(encoding_text_decoder_encoding(&state));
+    }
+
+    /** @return whether nothing is pending and no mark is looked for */
+    bool in_neutral_state() const noexcept { return encoding_text_decoder_in_neutral_state(&state); }
+
+    /** Forgets all that was read: the decoder is new again. */
+    void reset() noexcept
+    {
+        encoding_text_decoder_new(&state, static_cast<std::uint8_t>(first_encoding),
+                                  static_cast<std::uint8_t>(first_bom));
+    }
+
+private:
+    static coded coded_of(const encoding_text_coder_result &done) noexcept
+    {
+        return {done.read, done.written, done.replaced, static_cast<decoder_result>(done.result)};
+    }
+
+    coded step(bytes src, std::uint16_t *dst, std::size_t length, bool last) noexcept
+    {
+        return coded_of(encoding_text_decoder_decode_to_utf16(&state, src.data(), src.size(), dst, length, last));
+    }
+
+    coded step(bytes src, std::uint8_t *dst, std::size_t length, bool last) noexcept
+    {
+        return coded_of(encoding_text_decoder_decode_to_utf8(&state, src.data(), src.size(), dst, length, last));
+    }
+
+    template <class String> std::size_t append(bytes src, String &text, bool last)
+    {
+        detail::extension extended(text, state);
+        std::size_t replaced = 0;
+        coded done;
+        do {
+            const std::size_t most = src.size() + src.size() / 8 + detail::room_for_pending;
+            detail::append(text, most, [&](auto *dst) {
+                done = step(src, detail::units(dst), most, last);
+                return done.written;
+            });
+            src = src.from(done.read);
+            replaced += done.replaced;
+        } while (done.result == decoder_result::output_full);
+        extended.keep();
+        return replaced;
+    }
+
+    encoding_text_decoder state = {};
+    encoding_text::encoding first_encoding;
+    bom_handling first_bom;
 };
 
 /** @} */

@@ -28,6 +28,43 @@ void encoder_lengths(void);
 void encoder_calls_from_utf16(void);
 void encoder_calls_from_text(void);
 
+/* utf16.c */
+
+/* The storage with these bytes, this count and this byte order. */
+encoding_text_utf16_decoder utf16_decoder_with(uint8_t first, uint8_t second, uint8_t third, uint8_t count,
+                                               uint8_t big_endian);
+
+bool utf16_decoded_is(encoding_text_decoder_result decoded, size_t read, size_t written, uint8_t result,
+                      uint8_t malformed_length, uint8_t read_after);
+
+/* Whether these bytes are pending. If there are any, both fields of the storage have to show them. */
+bool utf16_pending_are(const encoding_text_utf16_decoder *decoder, const char *wanted, size_t length);
+
+void utf16_decoder_storage(void);
+void utf16_decoder_lengths(void);
+void utf16_decoder_calls(void);
+void utf16_calls_of_no_elements(const uint8_t *bytes, uint8_t *to_bytes, uint16_t *to_units);
+
+/* marks.c */
+
+/* The storage with these pending bytes, this encoding and these marks. */
+encoding_text_decoder stream_decoder_with(const char *pending, size_t length, uint8_t encoding, uint8_t bom);
+
+bool coded_is(encoding_text_coder_result coded, size_t read, size_t written, size_t replaced, uint8_t result);
+
+/* Whether the storage has these contents, and the calls that tell of it say the same. */
+bool stream_decoder_is(const encoding_text_decoder *decoder, const char *pending, size_t length, uint8_t encoding,
+                       uint8_t bom);
+
+void stream_decoders(void);
+void stream_calls_of_no_elements(const uint8_t *bytes, uint8_t *to_bytes, uint16_t *to_units);
+
+/* search.c */
+void searches(void);
+
+/* surrogates.c */
+void surrogate_counts(void);
+
 /* runs.c */
 encoding_text_report *fresh_reports(void);
 

@@ -2,7 +2,14 @@
  * Which build c/choose.c selects, over the features of a processor and over environments. It is compiled with an empty
  * names.h, so no function is bound. C99 with GNU's extensions.
  */
+#include <cpuid.h>
 #include <stdio.h>
+
+/* The greatest leaf that a processor has, and leaf 7 of one for which a leaf that it doesn't have is all ones. */
+static unsigned greatest_leaf = 7;
+#define __get_cpuid_max(leaf, signature) ((leaf) == 0 ? greatest_leaf : 0x80000001u)
+#undef __cpuid_count
+#define __cpuid_count(leaf, subleaf, a, b, c, d) ((a) = (b) = (c) = (d) = ~0u)
 
 #include "../../c/choose.c"
 
@@ -102,6 +109,13 @@ int main(void)
     processors();
     settings();
     count(takes_v3() == takes_v3(), "the same choice at each call");
+    count(ask_processor().leaf_7 == ~0u, "leaf 7");
+    greatest_leaf = 6;
+    count(ask_processor().leaf_7 == 0, "a processor without leaf 7 isn't asked for it");
+    greatest_leaf = 1;
+    count(ask_processor().leaf_1 != 0, "a processor with only leaf 1 is asked for it");
+    greatest_leaf = 0;
+    count(ask_processor().leaf_1 == 0, "a processor without leaf 1 isn't asked for it");
     printf("%d passed, %d failed\n", passed, failed);
     return failed != 0 || passed == 0;
 }

@@ -200,6 +200,8 @@ void buffers_of_no_elements(const uint8_t *bytes, const uint16_t *units, uint8_t
     destinations_of_no_elements(to_bytes, to_units);
     texts_of_no_elements(bytes, to_bytes);
     decoder_calls_of_no_elements(bytes, to_bytes, to_units);
+    utf16_calls_of_no_elements(bytes, to_bytes, to_units);
+    stream_calls_of_no_elements(bytes, to_bytes, to_units);
     encoder_calls_of_no_elements(bytes, units, to_bytes);
     runs_of_no_elements(bytes, units, to_bytes, to_units);
 }

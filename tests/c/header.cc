@@ -1,6 +1,7 @@
 // The calls of encoding_text.hpp, as C++17 and as C++20. What they have to return are literals of the compiler's own
 // encodings, the forms of the Unicode Standard (Tables 3-6 and 3-7), and its examples of malformed bytes.
 #include "encoding_text.hpp"
+#include "header_streams.h"
 
 #include <array>
 #include <cstdlib>
@@ -19,6 +20,7 @@
 using namespace std::literals;
 using encoding_text::bytes;
 using encoding_text::code_units;
+using encoding_text::utf16_decoder;
 using encoding_text::utf8_decoder;
 
 // How many allocations succeed before one fails. The compiler warns of `free` if it puts these functions into others.
@@ -170,9 +172,13 @@ static void empty_arguments()
     CHECK(decoder.decode(bytes(), text, true) == 0 && text.empty());
 }
 
-// Whether the memory of a string is as long as its text, for the library whose strings double only short ones.
-template <class String> static bool is_exact([[maybe_unused]] const String &text)
+// Whether a string ends with a zero, and its memory is as long as its text, for the library whose strings double only short
+// ones.
+template <class String> static bool is_exact(const String &text)
 {
+    if (text.c_str()[text.size()] != 0) {
+        return false;
+    }
 #ifdef __GLIBCXX__
     return text.size() <= 30 || text.capacity() == text.size();
 #else
@@ -330,6 +336,34 @@ static void damaged_text(const damaged &text, std::size_t before)
     CHECK(encoding_text::utf8_count(source) == encoding_text::utf16_count(utf16));
 }
 
+// The malformed sequences of a stream, in blocks of this length, are those of its bytes.
+static void searches(const std::string &text, std::size_t length)
+{
+    malformations found;
+    encoding_text::malformed_search search;
+    for (std::size_t i = 0; i <= text.size(); i += length) {
+        CHECK(search.search(std::string_view(text).substr(i, length), i + length > text.size(),
+                            [&](const encoding_text::stream_malformation &malformed) {
+                                found.push_back({static_cast<std::size_t>(malformed.offset), malformed.length,
+                                                 static_cast<std::size_t>(malformed.kind)});
+                            }));
+    }
+    CHECK(found == each_malformation(text));
+}
+
+static void searched_streams()
+{
+    std::string text;
+    for (int i = 0; i < 40; i++) {
+        text += "a\xE2\x98\xF0\x9F\x92z\xFF\xED\xA0\x80";
+    }
+    text += "\xE2\x98";
+    for (const std::size_t length : {1, 2, 3, 5, 64, 1000}) {
+        searches(text, length);
+    }
+    CHECK(!encoding_text::malformed_search(UINT64_MAX).search("a", true, [](const auto &) {}));
+}
+
 static void damaged_texts()
 {
     for (const damaged &text : DAMAGED) {
@@ -360,6 +394,33 @@ static void iterators()
     CHECK(sequences.begin()->offset == 1);
     CHECK((std::is_same_v<decltype(it)::value_type, encoding_text::malformed_sequence>));
     CHECK(encoding_text::malformed_sequences("a").begin() == encoding_text::malformed_sequences("a").end());
+    auto second = encoding_text::malformed_sequences("\xFF\xFF").begin();
+    const auto first = second++;
+    CHECK(first != second && first->length == second->length);
+}
+
+// A source and spans of more than 4 GiB, of which only the first bytes are read or written.
+static void long_spans(const bytes &source, char *text, char16_t *units)
+{
+    using encoding_text::decoder_result;
+    encoding_text::decoder utf8(encoding_text::encoding::utf_8, encoding_text::bom_handling::off);
+    utf16_decoder utf16(false);
+    std::array<char, 64> octets;
+    std::array<char16_t, 64> few;
+    CHECK(utf8.decode(source, octets, true).result == decoder_result::output_full);
+    CHECK(utf8.decode(source, few, true).result == decoder_result::output_full);
+    CHECK(utf8.decode_without_replacement(source, octets, true).result == decoder_result::output_full);
+    CHECK(utf8.decode_without_replacement(source, few, true).result == decoder_result::output_full);
+    CHECK(utf16.decode_without_replacement(source, octets, true).result == decoder_result::output_full);
+    CHECK(utf16.decode_without_replacement(source, few, true).result == decoder_result::output_full);
+    const encoding_text::writable_bytes many{text, source.size()};
+    const encoding_text::writable_code_units more{units, source.size()};
+    const std::string some(40, 'a');
+    CHECK(utf8.decode(some, many, true).written == 40 && utf8.decode(some, more, true).written == 40);
+    CHECK(utf8.decode_without_replacement(some, many, true).written == 40);
+    CHECK(utf8.decode_without_replacement(some, more, true).written == 40);
+    CHECK(utf16.decode_without_replacement(some, many, true).written == 60);
+    CHECK(utf16.decode_without_replacement(some, more, true).written == 20);
 }
 
 // Lengths and offsets have the type of the C functions' own, also those above 2^32 - 1.
@@ -394,6 +455,9 @@ static void long_texts()
     CHECK(encoding_text::convert_utf8_to_utf16_without_replacement(some) == std::nullopt);
     CHECK(encoding_text::convert_utf8_to_latin1(some) == std::nullopt);
     text[low + 2] = 0;
+    text[length - 2] = 0xFF;
+    CHECK(encoding_text::utf8_valid_up_to(some) == length - 2);
+    text[length - 2] = 0;
     units[low + 2] = 0xD800;
     const code_units all{units, length};
     CHECK(!encoding_text::is_utf16(all) && !encoding_text::is_utf16_latin1(all));
@@ -401,9 +465,13 @@ static void long_texts()
     CHECK(encoding_text::convert_utf16_to_latin1(all) == std::nullopt);
     CHECK(encoding_text::utf16_count(all) == length);
     units[low + 2] = 0;
+    units[length - 2] = 0xD800;
+    CHECK(encoding_text::utf16_valid_up_to(all) == length - 2);
+    units[length - 2] = 0;
     CHECK(encoding_text::utf8_count(some) == length && encoding_text::repaired_utf8_length(some) == length);
     CHECK(encoding_text::next_malformed(some, length - low).offset == length);
     CHECK(encoding_text::next_malformation(some, length - low).offset == length);
+    long_spans(some, static_cast<char *>(memory), static_cast<char16_t *>(memory));
     munmap(memory, 2 * length);
 }
 
@@ -433,6 +501,51 @@ static bool decodes(const std::string &source, std::size_t cut, const pair &want
            && count8 == replaced && to_utf16.in_neutral_state() && to_utf8.in_neutral_state();
 }
 
+// The malformed sequences that a decoder hands out, of bytes in three pieces.
+static void places()
+{
+    const std::string source = "a\x80\xFF\xE0\x80\xED\xA0\x80\xF4\x91\xE2\x98z\xF0\x9F\x98";
+    for (std::size_t first = 0; first <= source.size(); first++) {
+        for (std::size_t second = first; second <= source.size(); second++) {
+            std::vector<std::array<std::size_t, 3>> found16, found8, wanted;
+            const auto add_to = [](auto &found) {
+                return [&found](const encoding_text::malformation &one) {
+                    found.push_back({one.offset, one.length, static_cast<std::size_t>(one.kind)});
+                };
+            };
+            for (std::size_t offset = 0;;) {
+                const auto one = encoding_text::next_malformation(source, offset);
+                if (one.length == 0) {
+                    break;
+                }
+                add_to(wanted)(one);
+                offset = one.offset + one.length;
+            }
+            utf8_decoder to_utf16, to_utf8;
+            std::u16string utf16;
+            std::string utf8;
+            const auto piece = [&](std::size_t from, std::size_t to) { return std::string_view(source).substr(from, to - from); };
+            to_utf16.decode(piece(0, first), utf16, false, add_to(found16));
+            to_utf16.decode(piece(first, second), utf16, false, add_to(found16));
+            to_utf16.decode(piece(second, source.size()), utf16, true, add_to(found16));
+            to_utf8.decode(piece(0, first), utf8, false, add_to(found8));
+            to_utf8.decode(piece(first, second), utf8, false, add_to(found8));
+            CHECK(to_utf8.decode(piece(second, source.size()), utf8, true, add_to(found8)) <= 11);
+            CHECK(wanted.size() == 11 && found16 == wanted && found8 == wanted);
+            CHECK(utf16 == encoding_text::convert_utf8_to_utf16(source) && utf8 == encoding_text::repair(source).text);
+        }
+    }
+    utf8_decoder decoder;
+    std::string text;
+    std::size_t offset = 0;
+    decoder.decode("abc\xFF", text, false);
+    decoder.decode("d\xFF", text, false, [&](const encoding_text::malformation &one) { offset = one.offset; });
+    CHECK(offset == 5);
+    decoder.reset();
+    decoder.decode("\xFF", text, false, [&](const encoding_text::malformation &one) { offset = one.offset; });
+    CHECK(offset == 0);
+}
+
 static void decoder()
 {
     for (const pair &text : TEXTS) {
@@ -447,6 +560,7 @@ static void decoder()
         const pair many = {times(5003, text.repaired.utf8 + "."), times(5003, text.repaired.utf16 + u".")};
         CHECK(decodes(times(5003, text.bytes + "."), 10007, many, 5003 * text.malformed.size()));
     }
+    places();
     utf8_decoder pending;
     std::string text;
     CHECK(pending.decode("\xE2\x98", text, false) == 0 && text.empty() && !pending.in_neutral_state());
@@ -500,6 +614,30 @@ static void failing_memory()
     const auto unchanged8 = [&] { return text == "a" && !decoder.in_neutral_state(); };
     CHECK(failures([&] { decoder.decode(bad, text, true); }, unchanged8) > 1);
     CHECK(text == "a" + times(1001, PAIR(F).utf8) && decoder.in_neutral_state());
+
+    utf16_decoder utf16_pending(true);
+    text.clear();
+    utf16_pending.decode("\xD8", text, false);
+    utf16_decoder utf16_second = utf16_pending;
+    utf16.clear();
+    utf16.shrink_to_fit();
+    text.shrink_to_fit();
+    const auto utf16_unchanged = [&] { return utf16.empty() && !utf16_second.in_neutral_state(); };
+    CHECK(failures([&] { utf16_second.decode(long_text, utf16, true); }, utf16_unchanged) == 1 && utf16.size() == 501);
+    const auto utf8_unchanged = [&] { return text.empty() && !utf16_pending.in_neutral_state(); };
+    CHECK(failures([&] { utf16_pending.decode(long_text, text, true); }, utf8_unchanged) == 1 && text.size() == 1503);
+
+    encoding_text::decoder marked(encoding_text::encoding::utf_8);
+    text.clear();
+    text.shrink_to_fit();
+    utf16.clear();
+    utf16.shrink_to_fit();
+    marked.decode("\xFF", text, false);
+    encoding_text::decoder marked_second = marked;
+    const auto marked_unchanged = [&] { return utf16.empty() && text.empty() && !marked.in_neutral_state(); };
+    CHECK(failures([&] { marked.decode(bad, text, true); }, marked_unchanged) > 1 && text.size() == 3003);
+    CHECK(failures([&] { marked_second.decode(bad, utf16, true); }, [&] { return utf16.empty(); }) == 1);
+    CHECK(utf16.size() == 1001);
 }
 
 int main()
@@ -510,10 +648,13 @@ int main()
     each_scalar_value();
     latin1();
     damaged_texts();
+    searched_streams();
     iterators();
     long_texts();
     unpaired_surrogates();
     decoder();
+    utf16_decoders();
+    marked_decoders();
     failing_memory();
     return finish();
 }

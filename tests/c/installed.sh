@@ -8,7 +8,7 @@ modes() {
     (cd "$staged" && find . -type f -printf '%m %p\n' -o -type l -printf 'link to %l %p\n' | LC_ALL=C sort -k 2)
 }
 
-# What modes has to print: 755 for the program and the shared library.
+# What modes has to print: 755 for the programs and the shared library.
 modes_wanted() {
     printf %b "$wanted" | sed -E "s|.*/bin/.*\|.*/$SHARED\$|755 &|; s|.*\.so\$|link to $SHARED &|; s|^\.|644 &|" | LC_ALL=C sort -k 2
 }
@@ -41,14 +41,16 @@ needs() { # the program; prints the shared libraries of this repository that it 
     LC_ALL=C readelf -d "$1" | sed -n 's/.*(NEEDED).*\[\(libencoding_text.*\)\]/\1/p'
 }
 
-# The installed program, on its happy path and with its statuses.
-repairs() { # the input, the status
+# The installed programs, on their happy path and with their statuses.
+answers() { # the program, the input
     local status=0
-    printf %b "$1" | "$staged/srv/text/bin/utf8_repair" || status=$?
+    printf %b "$2" | "$staged/srv/text/bin/$1" || status=$?
     echo "$status"
 }
-step 'the installed program' gives 'a\357\277\275Z1\n' repairs 'a\342\230Z'
-step 'the installed program on text' gives 'text0\n' repairs text
+step 'the installed utf8_repair' gives 'a\357\277\275Z1\n' answers utf8_repair 'a\342\230Z'
+step 'the installed utf8_repair on text' gives 'text0\n' answers utf8_repair text
+step 'the installed utf8_check' gives '(standard input):1:2: offset 1: E2 98: cut short\n1\n' answers utf8_check 'a\342\230Z'
+step 'the installed utf8_check on text' gives '0\n' answers utf8_check text
 
 if has pkg-config; then
     asked() { # what pkg-config is asked for

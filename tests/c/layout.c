@@ -23,6 +23,9 @@ static void fields(void)
     const field all[] = {
         FIELD(encoding_text_progress, read, 0, 8),
         FIELD(encoding_text_progress, written, 8, 8),
+        FIELD(encoding_text_counted_progress, read, 0, 8),
+        FIELD(encoding_text_counted_progress, written, 8, 8),
+        FIELD(encoding_text_counted_progress, replaced, 16, 8),
         FIELD(encoding_text_prefix, length, 0, 8),
         FIELD(encoding_text_prefix, other, 8, 2),
         FIELD(encoding_text_utf8_decoder, pending, 0, 3),
@@ -31,6 +34,24 @@ static void fields(void)
         FIELD(encoding_text_decode_result, written, 8, 8),
         FIELD(encoding_text_decode_result, result, 16, 1),
         FIELD(encoding_text_decode_result, malformed_length, 17, 1),
+        FIELD(encoding_text_utf16_decoder, pending, 0, 3),
+        FIELD(encoding_text_utf16_decoder, count, 3, 1),
+        FIELD(encoding_text_utf16_decoder, big_endian, 4, 1),
+        FIELD(encoding_text_decoder_result, read, 0, 8),
+        FIELD(encoding_text_decoder_result, written, 8, 8),
+        FIELD(encoding_text_decoder_result, result, 16, 1),
+        FIELD(encoding_text_decoder_result, malformed_length, 17, 1),
+        FIELD(encoding_text_decoder_result, read_after, 18, 1),
+        FIELD(encoding_text_decoder, pending, 0, 3),
+        FIELD(encoding_text_decoder, count, 3, 1),
+        FIELD(encoding_text_decoder, encoding, 4, 1),
+        FIELD(encoding_text_decoder, bom, 5, 1),
+        FIELD(encoding_text_coder_result, read, 0, 8),
+        FIELD(encoding_text_coder_result, written, 8, 8),
+        FIELD(encoding_text_coder_result, replaced, 16, 8),
+        FIELD(encoding_text_coder_result, result, 24, 1),
+        FIELD(encoding_text_bom, length, 0, 8),
+        FIELD(encoding_text_bom, encoding, 8, 1),
         FIELD(encoding_text_piece, read, 0, 8),
         FIELD(encoding_text_piece, character, 8, 4),
         FIELD(encoding_text_piece, kind, 12, 1),
@@ -54,6 +75,15 @@ static void fields(void)
         FIELD(encoding_text_malformation, place, 0, 8),
         FIELD(encoding_text_malformation, length, 8, 8),
         FIELD(encoding_text_malformation, kind, 16, 1),
+        FIELD(encoding_text_malformed_search, start, 0, 8),
+        FIELD(encoding_text_malformed_search, pending, 8, 3),
+        FIELD(encoding_text_malformed_search, count, 11, 1),
+        FIELD(encoding_text_stream_malformation, offset, 0, 8),
+        FIELD(encoding_text_stream_malformation, length, 8, 1),
+        FIELD(encoding_text_stream_malformation, kind, 9, 1),
+        FIELD(encoding_text_search_block_result, read, 0, 8),
+        FIELD(encoding_text_search_block_result, found, 8, 8),
+        FIELD(encoding_text_search_block_result, finished, 16, 1),
         FIELD(encoding_text_repair_result, written, 0, 8),
         FIELD(encoding_text_repair_result, replaced, 8, 8),
         FIELD(encoding_text_repair_block_result, read, 0, 8),
@@ -70,9 +100,15 @@ static void fields(void)
 static void sizes(void)
 {
     CHECK(sizeof(encoding_text_progress) == 16);
+    CHECK(sizeof(encoding_text_counted_progress) == 24);
     CHECK(sizeof(encoding_text_prefix) == 16);
     CHECK(sizeof(encoding_text_utf8_decoder) == 4);
     CHECK(sizeof(encoding_text_decode_result) == 24);
+    CHECK(sizeof(encoding_text_utf16_decoder) == 5);
+    CHECK(sizeof(encoding_text_decoder_result) == 24);
+    CHECK(sizeof(encoding_text_decoder) == 6);
+    CHECK(sizeof(encoding_text_coder_result) == 32);
+    CHECK(sizeof(encoding_text_bom) == 16);
     CHECK(sizeof(encoding_text_piece) == 16);
     CHECK(sizeof(encoding_text_utf8_encoder) == 2);
     CHECK(sizeof(encoding_text_encode_result) == 24);
@@ -81,6 +117,9 @@ static void sizes(void)
     CHECK(sizeof(encoding_text_decode_run_result) == 32);
     CHECK(sizeof(encoding_text_malformed_sequence) == 16);
     CHECK(sizeof(encoding_text_malformation) == 24);
+    CHECK(sizeof(encoding_text_malformed_search) == ENCODING_TEXT_MALFORMED_SEARCH_SIZE);
+    CHECK(sizeof(encoding_text_stream_malformation) == 16);
+    CHECK(sizeof(encoding_text_search_block_result) == 24);
     CHECK(sizeof(encoding_text_repair_result) == 16);
     CHECK(sizeof(encoding_text_repair_block_result) == 32);
 }

@@ -18,6 +18,11 @@ shared_exports() {
     sed "s/\$/@@${NODE:?}/" build/names | diff - <(symbols)
 }
 
+# Succeeds if the shared library wants no executable stack, and all its symbols are bound when it is loaded.
+is_hardened() {
+    "${tools}readelf" -lW "$shared" | grep -E '^ *GNU_STACK .* RW +0x' && "${tools}readelf" -dW "$shared" | grep -E 'FLAGS_1.* NOW'
+}
+
 # Succeeds if the shared library has each symbol of the last release of this series.
 keeps_symbols() {
     grep -c "@@$NODE\$" c/symbols.txt && ! grep "@@$NODE\$" c/symbols.txt | LC_ALL=C comm -23 - <(symbols) | grep .

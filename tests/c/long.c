@@ -185,6 +185,58 @@ static void streams(void)
     CHECK(block_is(encoding_text_repair_block(&decoder, ascii(), SHORT, to_bytes, LONG, true), SHORT, SHORT, 0, true));
 }
 
+static void utf16_streams(void)
+{
+    encoding_text_utf16_decoder decoder = utf16_decoder_with(0, 0, 0, 0, 0);
+    const uint8_t *src = (const uint8_t *)stops_at_unit(0xDC00);
+
+    CHECK(encoding_text_utf16_decoder_max_utf16_buffer_length(&decoder, LONG) - FOUR_GIB / 2
+          == encoding_text_utf16_decoder_max_utf16_buffer_length(&decoder, LOW));
+    CHECK(encoding_text_utf16_decoder_max_utf8_buffer_length(&decoder, LONG) - FOUR_GIB / 2 * 3
+          == encoding_text_utf16_decoder_max_utf8_buffer_length(&decoder, LOW));
+    CHECK(encoding_text_utf16_decoder_max_utf8_buffer_length_without_replacement(&decoder, LONG) - FOUR_GIB / 2 * 3
+          == encoding_text_utf16_decoder_max_utf8_buffer_length_without_replacement(&decoder, LOW));
+    CHECK(utf16_decoded_is(encoding_text_utf16_decoder_decode_to_utf16(&decoder, src, LONG, to_units, LONG, true),
+                           2 * STOP + 2, STOP, ENCODING_TEXT_MALFORMED, 2, 0));
+    CHECK(utf16_decoded_is(encoding_text_utf16_decoder_decode_to_utf8(&decoder, src, LONG, to_bytes, LONG, true),
+                           2 * STOP + 2, STOP, ENCODING_TEXT_MALFORMED, 2, 0));
+    src = (const uint8_t *)ascii_units();
+    CHECK(utf16_decoded_is(encoding_text_utf16_decoder_decode_to_utf16(&decoder, src, 2 * SHORT, to_units, LONG, true),
+                           2 * SHORT, SHORT, ENCODING_TEXT_INPUT_EMPTY, 0, 0));
+    CHECK(utf16_decoded_is(encoding_text_utf16_decoder_decode_to_utf8(&decoder, src, 2 * SHORT, to_bytes, LONG, true),
+                           2 * SHORT, SHORT, ENCODING_TEXT_INPUT_EMPTY, 0, 0));
+}
+
+static void marked_streams(void)
+{
+    encoding_text_decoder decoder = stream_decoder_with("", 0, ENCODING_TEXT_UTF_8, ENCODING_TEXT_BOM_OFF);
+    encoding_text_decoder sniff = stream_decoder_with("", 0, ENCODING_TEXT_UTF_8, ENCODING_TEXT_BOM_SNIFF);
+
+    CHECK(encoding_text_for_bom(stops_at(""), LONG).length == 0);
+    memcpy(bytes, "\xEF\xBB\xBF", 3);
+    CHECK(encoding_text_for_bom(bytes, FOUR_GIB + 1).length == 3);
+    CHECK(encoding_text_decoder_max_utf16_buffer_length(&decoder, LONG) - FOUR_GIB
+          == encoding_text_decoder_max_utf16_buffer_length(&decoder, LOW));
+    CHECK(encoding_text_decoder_max_utf8_buffer_length_without_replacement(&decoder, LONG) - FOUR_GIB
+          == encoding_text_decoder_max_utf8_buffer_length_without_replacement(&decoder, LOW));
+    CHECK(encoding_text_decoder_max_utf8_buffer_length(&sniff, LONG) - 3 * FOUR_GIB
+          == encoding_text_decoder_max_utf8_buffer_length(&sniff, LOW));
+    CHECK(encoding_text_decoder_latin1_byte_compatible_up_to(&decoder, stops_at("\xFF"), LONG) == STOP);
+    CHECK(coded_is(encoding_text_decoder_decode_to_utf16(&decoder, ascii(), LONG, to_units, SHORT, true), SHORT, SHORT, 0,
+                   ENCODING_TEXT_OUTPUT_FULL));
+    CHECK(coded_is(encoding_text_decoder_decode_to_utf16(&decoder, ascii(), SHORT, to_units, LONG, true), SHORT, SHORT, 0,
+                   ENCODING_TEXT_INPUT_EMPTY));
+    CHECK(encoding_text_decoder_decode_to_utf8(&decoder, ascii(), LONG, to_bytes, 3 * SHORT, false).read > LOW);
+    CHECK(coded_is(encoding_text_decoder_decode_to_utf8(&decoder, ascii(), SHORT, to_bytes, LONG, true), SHORT, SHORT, 0,
+                   ENCODING_TEXT_INPUT_EMPTY));
+    CHECK(utf16_decoded_is(encoding_text_decoder_decode_to_utf16_without_replacement(&decoder, stops_at("\xFF"), LONG,
+                                                                                     to_units, LONG, true),
+                           STOP + 1, STOP, ENCODING_TEXT_MALFORMED, 1, 0));
+    CHECK(utf16_decoded_is(encoding_text_decoder_decode_to_utf8_without_replacement(&decoder, stops_at("\xFF"), LONG,
+                                                                                    to_bytes, LONG, true),
+                           STOP + 1, STOP, ENCODING_TEXT_MALFORMED, 1, 0));
+}
+
 static void runs(void)
 {
     const encoding_text_turn turn[] = {{SHORT, 3 * SHORT, true}};
@@ -247,6 +299,8 @@ int main(void)
     checks_of_buffers();
     conversions();
     streams();
+    utf16_streams();
+    marked_streams();
     runs();
     results();
     return finish();

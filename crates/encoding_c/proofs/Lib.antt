@@ -1,2 +1,5 @@
 pub mod StateLemmas
 pub mod LengthLemmas
+pub mod Utf16StateLemmas
+pub mod DecoderStateLemmas
+pub mod SearchStateLemmas

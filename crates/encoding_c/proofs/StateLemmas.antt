@@ -9,7 +9,6 @@ use Rattle.encoding_text.specs.declared.decoder.DecoderResult.{DecoderResult}
 use Rattle.encoding_text.specs.declared.decoder.DecoderResult.TheVariants.{InputEmpty, OutputFull, Malformed}
 use Rattle.encoding_text.specs.declared.decoder.Piece.{Piece}
 use Rattle.encoding_text.specs.declared.decoder.Piece.TheVariants as piece
-use Rattle.encoding_definitions.proofs.SequenceLemmas.{length-IsIncomplete}
 use Rattle.encoding_text.proofs.BorrowedLemmas.{same_piece}
 use Rattle.encoding_c.specs.States.{EndsWith, IsPendingUnit}
 use Rattle.std.proofs.lemmas.Bool.{cases_lt}

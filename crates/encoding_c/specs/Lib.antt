@@ -1,3 +1,5 @@
 pub mod Status
 pub mod States
 pub mod Buffers
+pub mod DecoderStates
+pub mod Searches

@@ -1,17 +1,23 @@
 -- What the storage of a decoder or an encoder represents between two calls, and the numbers that a call returns. The
 -- numbers that a run returns, whose decoder or encoder is in the caller's storage.
-use Rattle.std.specs.Prelude.{◌≡◌, ℕ, ◌-◌, ◌<◌, ◌≤◌, List, [], ◌∷◌, ◌++◌, length, take, slice_index, Option, MatchOption}
+use Rattle.std.specs.Prelude.{◌≡◌, ◌≢◌, ℕ, ◌-◌, ◌<◌, ◌≤◌, List, [], ◌∷◌, ◌++◌, length, take, slice_index, Option, MatchOption}
 use Rattle.encoding_definitions.specs.Sequence.{IsPending}
 use Rattle.encoding_definitions.specs.Utf16.{IsHighSurrogate}
+use Rattle.encoding_text.specs.declared.utf_16.ByteOrder.{ByteOrder}
+use Rattle.encoding_text.specs.declared.utf_16.ByteOrder.TheVariants.{LittleEndian, BigEndian}
 use Rattle.encoding_text.specs.declared.decoder.DecoderResult.{DecoderResult}
 use Rattle.encoding_text.specs.declared.decoder.DecoderResult.TheVariants as decoder
 use Rattle.encoding_text.specs.declared.decoder.Piece.{Piece}
 use Rattle.encoding_text.specs.declared.decoder.Piece.TheVariants as piece
 use Rattle.encoding_text.specs.declared.utf_8.encoder.EncoderResult.{EncoderResult}
 use Rattle.encoding_text.specs.declared.utf_8.encoder.EncoderResult.TheVariants as encoder
+use Rattle.encoding_streams.specs.Utf16Parts.{IsPendingUtf16}
+use Rattle.encoding_streams.specs.Utf16Decoding.{Utf16State}
 use Rattle.encoding_c.specs.declared.decoder.EncodingUtf8Decoder.{EncodingUtf8Decoder}
 use Rattle.encoding_c.specs.declared.decoder.EncodingPiece.{EncodingPiece}
 use Rattle.encoding_c.specs.declared.encoder.EncodingUtf8Encoder.{EncodingUtf8Encoder}
+use Rattle.encoding_c.specs.declared.utf16_decoder.EncodingUtf16Decoder.{EncodingUtf16Decoder}
+use Rattle.encoding_c.specs.declared.utf16_decoder.EncodingDecoderResult.{EncodingDecoderResult}
 use Rattle.encoding_runs.specs.declared.run.decoding.Outcome.{Outcome}
 use Rattle.encoding_runs.specs.declared.run.encoding.EncodeOutcome.{EncodeOutcome}
 use Rattle.encoding_c.specs.declared.encoder.EncodingEncodeResult.{EncodingEncodeResult}
@@ -25,6 +31,22 @@ IsValidState state = (state.count ≤ 3) × IsPending (take state.count state.pe
 pub record Represents (state : EncodingUtf8Decoder) (p : List ℕ) : Type 0 where
   pub left : IsValidState state → p ≡ take state.count state.pending
   pub other : ¬ (IsValidState state) → p ≡ []
+
+-- the byte order for a number
+abbrev pub IsByteOrder : ℕ → ByteOrder → Type 0
+IsByteOrder big_endian LittleEndian = big_endian ≡ 0
+IsByteOrder big_endian BigEndian = big_endian ≢ 0
+
+-- the storage holds what a call of a UTF-16 decoder may leave there: at most three bytes that may be pending
+abbrev pub IsValidUtf16State : EncodingUtf16Decoder → ByteOrder → Type 0
+IsValidUtf16State state order = (state.count ≤ 3) × IsPendingUtf16 order (take state.count state.pending)
+
+-- the UTF-16 decoder that the storage represents: the pending bytes are those that a call left there, and otherwise
+-- none
+pub record RepresentsUtf16 (state : EncodingUtf16Decoder) (decoder : Utf16State) : Type 0 where
+  pub order : IsByteOrder state.big_endian decoder.order
+  pub left : IsValidUtf16State state decoder.order → decoder.pending ≡ take state.count state.pending
+  pub other : ¬ (IsValidUtf16State state decoder.order) → decoder.pending ≡ []
 
 -- the code units that the storage of an encoder represents: a pending surrogate, and otherwise none
 pub record RepresentsEncoder (state : EncodingUtf8Encoder) (surrogate : List ℕ) : Type 0 where
@@ -51,6 +73,12 @@ IsCodeOf decoder.InputEmpty result malformed = (result ≡ 0) × (malformed ≡ 
 IsCodeOf decoder.OutputFull result malformed = (result ≡ 1) × (malformed ≡ 0)
 IsCodeOf (decoder.Malformed k second) result malformed = (result ≡ 2) × (malformed ≡ k)
 
+-- the three numbers for what ended a call of a UTF-16 decoder
+abbrev pub IsUtf16CodeOf : DecoderResult → ℕ → ℕ → ℕ → Type 0
+IsUtf16CodeOf decoder.InputEmpty result malformed after = (result ≡ 0) × (malformed ≡ 0) × (after ≡ 0)
+IsUtf16CodeOf decoder.OutputFull result malformed after = (result ≡ 1) × (malformed ≡ 0) × (after ≡ 0)
+IsUtf16CodeOf (decoder.Malformed k second) result malformed after = (result ≡ 2) × (malformed ≡ k) × (after ≡ second)
+
 -- the number for what ended a call of an encoder
 abbrev pub IsEncodeCodeOf : EncoderResult → ℕ → Type 0
 IsEncodeCodeOf encoder.InputEmpty result = result ≡ 0
@@ -65,10 +93,10 @@ IsPieceCodeOf piece.InputEmpty reported = (reported.kind ≡ 3) × (reported.cha
 
 -- An operation in the storage of a decoder or an encoder. A relation holds of what the storage represents before it,
 -- what was done, and what the storage represents after it. Numbers represent what was done.
-pub record RunsInState {Storage Done : Type 0} (Stands : Storage → List ℕ → Type 0) (AreReported : Done → Type 0) (before after : Storage) (Says : List ℕ → Done → List ℕ → Type 0) : Type 0 where
-  pub p : List ℕ
+pub record RunsInState {Storage Value Done : Type 0} (Stands : Storage → Value → Type 0) (AreReported : Done → Type 0) (before after : Storage) (Says : Value → Done → Value → Type 0) : Type 0 where
+  pub p : Value
   pub done : Done
-  pub q : List ℕ
+  pub q : Value
   pub stood : Stands before p
   pub stands : Stands after q
   pub reported : AreReported done
@@ -77,6 +105,11 @@ pub record RunsInState {Storage Done : Type 0} (Stands : Storage → List ℕ �
 -- a call of the decoder
 abbrev pub DecoderCall : EncodingUtf8Decoder → EncodingUtf8Decoder → ℕ → ℕ → (List ℕ → DecoderResult → List ℕ → Type 0) → Type 0
 DecoderCall before after result malformed = RunsInState Represents (λ ended. IsCodeOf ended result malformed) before after
+
+-- a call of a UTF-16 decoder, which keeps its byte order
+abbrev pub Utf16Call : EncodingUtf16Decoder → EncodingUtf16Decoder → EncodingDecoderResult → (ByteOrder → List ℕ → DecoderResult → List ℕ → Type 0) → Type 0
+Utf16Call before after numbers Says = RunsInState RepresentsUtf16 (λ ended. IsUtf16CodeOf ended numbers.result numbers.malformed_length numbers.read_after)
+    before after (λ d ended e. (e.order ≡ d.order) × Says d.order d.pending ended e.pending)
 
 -- a borrowed call
 abbrev pub PieceCall : EncodingUtf8Decoder → EncodingUtf8Decoder → EncodingPiece → (List ℕ → Piece → List ℕ → Type 0) → Type 0

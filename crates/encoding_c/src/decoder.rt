@@ -1,6 +1,6 @@
 //! The streaming decoder: Encoding Standard, section 8.1.1. Between two calls it is in the caller's storage.
 
-ghost use Rattle.std.specs.Prelude.{◌≡◌, ℕ, ◌<◌, ◌≤◌, ◌↔◌, ◌⊎◌, List, [], ◌++◌, length, take, slice_index, min, encode_utf8, IsTrue};
+ghost use Rattle.std.specs.Prelude.{◌≡◌, ℕ, ◌<◌, ◌≤◌, ◌↔◌, ◌⊎◌, ◌+◌, List, [], ◌++◌, length, take, slice_index, min, encode_utf8, IsTrue};
 ghost use Rattle.std.specs.Char.Escape.{encode_utf16};
 ghost use Rattle.encoding_definitions.specs.Sequence.{IsPending};
 ghost use Rattle.encoding_text.specs.Decoding.{DecodeStepInto, BorrowedDecodeStep, Suffices, SufficesReplacing, max_utf16_length, max_utf8_length, max_utf8_length_with_replacement};
@@ -112,6 +112,25 @@ fn byte_at(pending: &[u8], read: &[u8], place: usize) -> u8
     }
 }
 
+/// Returns the last bytes of `pending` followed by `read`, `count` of them. The bytes after these have no meaning.
+#[inline(always)]
+pub(crate) fn last_bytes(pending: &[u8], read: &[u8], count: usize) -> [u8; 3]
+    requires within { count ≤ length pending.now + length read.now }
+    requires at_most_three { (count ≤ 3) × (length pending.now ≤ 3) }
+    ensures { (q : List ℕ) → EndsWith (pending.now ++ read.now) q → length q ≡ count
+        → take count result ≡ q }
+{
+    if count == 0 {
+        return [0; 3];
+    }
+    let start = pending.len() + read.len() - count;
+    [
+        byte_at(pending, read, start),
+        byte_at(pending, read, start + 1),
+        byte_at(pending, read, start + 2),
+    ]
+}
+
 /// Returns the storage of a decoder. Its pending bytes are the last ones of `pending`, the bytes pending before its
 /// call, followed by `read`.
 pub(crate) fn stored(decoder: &Utf8Decoder, pending: &[u8], read: &[u8]) -> EncodingUtf8Decoder
@@ -126,13 +145,8 @@ pub(crate) fn stored(decoder: &Utf8Decoder, pending: &[u8], read: &[u8]) -> Enco
             count: 0,
         };
     }
-    let start = pending.len() + read.len() - count;
     EncodingUtf8Decoder {
-        pending: [
-            byte_at(pending, read, start),
-            byte_at(pending, read, start + 1),
-            byte_at(pending, read, start + 2),
-        ],
+        pending: last_bytes(pending, read, count),
         count: count as u8,
     }
 }

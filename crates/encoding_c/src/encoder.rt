@@ -77,7 +77,7 @@ pub(crate) fn last_of(src: &[u16], before: u16) -> u16
 }
 
 /// Returns the code unit that is pending after a call, if one is.
-fn unit_to_keep(ended: &EncoderResult, src: &[u16], before: u16) -> u16
+pub(crate) fn unit_to_keep(ended: &EncoderResult, src: &[u16], before: u16) -> u16
     ensures { IsPendingUnit ended.now src.now before result }
 {
     match ended {

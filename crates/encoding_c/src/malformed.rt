@@ -50,7 +50,7 @@ pub struct EncodingMalformation {
 const WELL_FORMED: u8 = 0;
 
 /// Returns the number of a kind.
-fn number(kind: Malformation) -> u8
+pub(crate) fn number(kind: Malformation) -> u8
     ensures { result ≡ malformation_number kind }
 {
     match kind {

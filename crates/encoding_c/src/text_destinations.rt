@@ -11,7 +11,7 @@ use encoding_text::mem;
 use encoding_text::utf_8::utf8_valid_up_to;
 
 /// Returns whether the bytes are well-formed.
-fn is_text(bytes: &[u8]) -> bool
+pub(crate) fn is_text(bytes: &[u8]) -> bool
     ensures { IsTrue result ↔ IsUtf8 bytes.now }
 {
     utf8_valid_up_to(bytes) == bytes.len()
