@@ -21,6 +21,21 @@ impl From<Progress> for (usize, usize) {
     }
 }
 
+/// The same, and the number of unpaired surrogates that were replaced.
+#[repr(C)]
+pub(crate) struct CountedProgress {
+    pub(crate) read: usize,
+    pub(crate) written: usize,
+    pub(crate) replaced: usize,
+}
+
+impl From<CountedProgress> for (usize, usize, usize) {
+    #[inline]
+    fn from(progress: CountedProgress) -> (usize, usize, usize) {
+        (progress.read, progress.written, progress.replaced)
+    }
+}
+
 /// The length of an ASCII prefix, and the element after it, or 0 if there is none.
 #[repr(C)]
 pub(crate) struct Prefix {
@@ -51,6 +66,75 @@ impl DecodeResult {
     pub(crate) fn result(&self) -> u8 {
         self.result.load(Ordering::Relaxed)
     }
+}
+
+/// A decoder of UTF-16 between two calls: the pending bytes, their number, and 1 for UTF-16BE.
+#[repr(C)]
+#[derive(Clone, Debug)]
+pub(crate) struct Utf16State {
+    pending: [u8; 3],
+    count: u8,
+    big_endian: u8,
+}
+
+impl Utf16State {
+    /// Returns the state with nothing pending.
+    #[inline]
+    pub(crate) fn new(is_big_endian: bool) -> Utf16State {
+        Utf16State {
+            pending: [0; 3],
+            count: 0,
+            big_endian: u8::from(is_big_endian),
+        }
+    }
+}
+
+#[repr(C)]
+pub(crate) struct DecoderCallResult {
+    pub(crate) read: usize,
+    pub(crate) written: usize,
+    pub(crate) result: u8,
+    pub(crate) malformed_length: u8,
+    pub(crate) read_after: u8,
+}
+
+/// A decoder of any of the encodings between two calls: the pending bytes, their number, and the numbers of the encoding and
+/// of the marks that are looked for.
+#[repr(C)]
+#[derive(Clone, Debug)]
+pub(crate) struct StreamDecoder {
+    pending: [u8; 3],
+    count: u8,
+    encoding: u8,
+    bom: u8,
+}
+
+impl StreamDecoder {
+    /// Returns the state with nothing pending.
+    #[inline]
+    pub(crate) fn new(encoding: u8, bom: u8) -> StreamDecoder {
+        StreamDecoder {
+            pending: [0; 3],
+            count: 0,
+            encoding,
+            bom,
+        }
+    }
+}
+
+#[repr(C)]
+pub(crate) struct CoderResult {
+    pub(crate) read: usize,
+    pub(crate) written: usize,
+    pub(crate) replaced: usize,
+    pub(crate) result: u8,
+}
+
+/// The length of a byte order mark, 0 if there is none, and the number of its encoding.
+#[repr(C)]
+pub(crate) struct Bom {
+    pub(crate) length: usize,
+    pub(crate) encoding: u8,
 }
 
 #[repr(C)]
@@ -120,6 +204,12 @@ pub(crate) const LATIN1: u8 = 0;
 pub(crate) const LEFT_TO_RIGHT: u8 = 1;
 pub(crate) const INPUT_EMPTY: u8 = 0;
 pub(crate) const OUTPUT_FULL: u8 = 1;
+pub(crate) const UTF_8: u8 = 0;
+pub(crate) const UTF_16LE: u8 = 1;
+pub(crate) const UTF_16BE: u8 = 2;
+pub(crate) const BOM_OFF: u8 = 0;
+pub(crate) const BOM_REMOVE: u8 = 1;
+pub(crate) const BOM_SNIFF: u8 = 2;
 pub(crate) const PIECE_TEXT: u8 = 0;
 pub(crate) const PIECE_CHAR: u8 = 1;
 pub(crate) const PIECE_MALFORMED: u8 = 2;
@@ -139,6 +229,12 @@ pub(crate) fn room(length: usize, step: usize, query: impl Fn(usize) -> usize) -
     is_met.then_some(room)
 }
 
+/// Returns a length that is never `usize::MAX`, which the library returns for any greater one.
+#[inline]
+pub(crate) fn below_max(length: usize) -> Option<usize> {
+    (length != usize::MAX).then_some(length)
+}
+
 /// Declares functions by the types of their arguments, and wraps each over references under its own name.
 macro_rules! functions {
     (
@@ -147,6 +243,7 @@ macro_rules! functions {
         text { $($text:ident() -> $reported:ty;)* }
         conversion { $($conversion:ident($from:ty, $to:ty) -> $counts:ty;)* }
         query { $($query:ident($queried:ty);)* }
+        state { $($state:ident($stated:ty) -> $told:ty;)* }
         step { $($step:ident($stepped:ty, $read:ty, $write:ty) -> $ended:ty;)* }
     ) => {
         mod raw {
@@ -159,6 +256,7 @@ macro_rules! functions {
                     src: *const $from, src_length: usize, dst: *mut $to, dst_length: usize,
                 ) -> $counts;)*
                 $(pub(super) fn $query(state: *const $queried, length: usize) -> usize;)*
+                $(pub(super) fn $state(state: *const $stated) -> $told;)*
                 $(pub(super) fn $step(
                     state: *mut $stepped, src: *const $read, src_length: usize, dst: *mut $write, dst_length: usize, last: bool,
                 ) -> $ended;)*
@@ -167,7 +265,9 @@ macro_rules! functions {
                     src: *const u8, src_length: usize, dst: *mut u16, dst_length: usize,
                 ) -> usize;
                 pub(super) fn encoding_text_mem_ensure_utf16_validity(buffer: *mut u16, buffer_length: usize);
-                pub(super) fn encoding_text_utf8_decoder_in_neutral_state(decoder: *const Decoder) -> bool;
+                pub(super) fn encoding_text_decoder_latin1_byte_compatible_up_to(
+                    decoder: *const StreamDecoder, src: *const u8, src_length: usize,
+                ) -> usize;
                 pub(super) fn encoding_text_utf8_decoder_decode_borrowed(
                     decoder: *mut Decoder, src: *const u8, src_length: usize, last: bool,
                 ) -> Piece;
@@ -205,6 +305,11 @@ macro_rules! functions {
             unsafe { raw::$query(state, length) }
         })*
         $(#[inline]
+        pub(crate) fn $state(state: &$stated) -> $told {
+            // SAFETY: it reads the state, which is laid out as the header says.
+            unsafe { raw::$state(state) }
+        })*
+        $(#[inline]
         pub(crate) fn $step(state: &mut $stepped, src: &[$read], dst: &mut [$write], last: bool) -> $ended {
             // SAFETY: the borrows of state and destination are unique, so no two of the three overlap. The state is
             // laid out as the header says. It reads and writes elements within the slices, and any values of these are
@@ -238,6 +343,7 @@ functions! {
         encoding_text_utf8_count(u8) -> usize;
         encoding_text_utf16_count(u16) -> usize;
         encoding_text_repaired_utf8_length(u8) -> usize;
+        encoding_text_for_bom(u8) -> Bom;
     }
     text {
         encoding_text_mem_is_str_latin1_unchecked() -> bool;
@@ -262,6 +368,7 @@ functions! {
         encoding_text_mem_convert_utf8_to_utf16_without_replacement(u8, u16) -> Progress;
         encoding_text_repair_slice_partial(u8, u8) -> RepairBlockResult;
         encoding_text_mem_convert_utf16_to_utf8_partial(u16, u8) -> Progress;
+        encoding_text_mem_convert_utf16_to_utf8_partial_with_count(u16, u8) -> CountedProgress;
         encoding_text_mem_convert_utf16_to_utf8(u16, u8) -> usize;
         encoding_text_convert_utf8_to_utf16_up_to_invalid(u8, u16) -> Progress;
         encoding_text_decode_utf16le(u8, u16) -> Progress;
@@ -275,13 +382,31 @@ functions! {
         encoding_text_utf8_decoder_max_utf16_buffer_length(Decoder);
         encoding_text_utf8_decoder_max_utf8_buffer_length_without_replacement(Decoder);
         encoding_text_utf8_decoder_max_utf8_buffer_length(Decoder);
+        encoding_text_utf16_decoder_max_utf16_buffer_length(Utf16State);
+        encoding_text_utf16_decoder_max_utf8_buffer_length_without_replacement(Utf16State);
+        encoding_text_utf16_decoder_max_utf8_buffer_length(Utf16State);
+        encoding_text_decoder_max_utf16_buffer_length(StreamDecoder);
+        encoding_text_decoder_max_utf8_buffer_length_without_replacement(StreamDecoder);
+        encoding_text_decoder_max_utf8_buffer_length(StreamDecoder);
         encoding_text_utf8_encoder_max_buffer_length_from_utf16_without_replacement(Encoder);
         encoding_text_utf8_encoder_max_buffer_length_from_utf8_without_replacement(Encoder);
+    }
+    state {
+        encoding_text_utf8_decoder_in_neutral_state(Decoder) -> bool;
+        encoding_text_utf16_decoder_in_neutral_state(Utf16State) -> bool;
+        encoding_text_decoder_encoding(StreamDecoder) -> u8;
     }
     step {
         encoding_text_utf8_decoder_decode_to_utf16(Decoder, u8, u16) -> DecodeResult;
         encoding_text_utf8_decoder_decode_to_utf8(Decoder, u8, u8) -> DecodeResult;
+        encoding_text_utf16_decoder_decode_to_utf16(Utf16State, u8, u16) -> DecoderCallResult;
+        encoding_text_utf16_decoder_decode_to_utf8(Utf16State, u8, u8) -> DecoderCallResult;
+        encoding_text_decoder_decode_to_utf16(StreamDecoder, u8, u16) -> CoderResult;
+        encoding_text_decoder_decode_to_utf8(StreamDecoder, u8, u8) -> CoderResult;
+        encoding_text_decoder_decode_to_utf16_without_replacement(StreamDecoder, u8, u16) -> DecoderCallResult;
+        encoding_text_decoder_decode_to_utf8_without_replacement(StreamDecoder, u8, u8) -> DecoderCallResult;
         encoding_text_utf8_encoder_encode_from_utf16(Encoder, u16, u8) -> EncodeResult;
+        encoding_text_utf8_encoder_encode_from_utf16_with_count(Encoder, u16, u8) -> CoderResult;
     }
 }
 
@@ -305,9 +430,9 @@ pub(crate) fn encoding_text_mem_ensure_utf16_validity(buffer: &mut [u16]) {
 }
 
 #[inline]
-pub(crate) fn encoding_text_utf8_decoder_in_neutral_state(decoder: &Decoder) -> bool {
-    // SAFETY: it reads the decoder, which is laid out as the header says.
-    unsafe { raw::encoding_text_utf8_decoder_in_neutral_state(decoder) }
+pub(crate) fn encoding_text_decoder_latin1_byte_compatible_up_to(decoder: &StreamDecoder, src: &[u8]) -> usize {
+    // SAFETY: it reads the decoder, which is laid out as the header says, and the slice.
+    unsafe { raw::encoding_text_decoder_latin1_byte_compatible_up_to(decoder, src.as_ptr(), src.len()) }
 }
 
 #[inline]

@@ -11,8 +11,8 @@ pub enum DecoderResult {
     InputEmpty,
     /// The rest of the destination may be too short for the next character. Call again with more space.
     OutputFull,
-    /// A malformed sequence, whose length (one to three bytes) is the first number, ends what was read, and nothing is
-    /// pending. The second number, of bytes read after it, is always 0 here; decoders of other encodings use it.
+    /// A malformed sequence, whose length (one to three bytes) is the first number. The second is the number of bytes
+    /// read after it, which are pending: always 0 for UTF-8, and at most 1 for UTF-16.
     Malformed(u8, u8),
 }
 
@@ -22,6 +22,17 @@ fn ended(decoded: &c::DecodeResult) -> DecoderResult {
         c::INPUT_EMPTY => DecoderResult::InputEmpty,
         c::OUTPUT_FULL => DecoderResult::OutputFull,
         _ => DecoderResult::Malformed(decoded.malformed_length, 0),
+    }
+}
+
+impl From<&c::DecoderCallResult> for DecoderResult {
+    #[inline]
+    fn from(done: &c::DecoderCallResult) -> DecoderResult {
+        match done.result {
+            c::INPUT_EMPTY => DecoderResult::InputEmpty,
+            c::OUTPUT_FULL => DecoderResult::OutputFull,
+            _ => DecoderResult::Malformed(done.malformed_length, done.read_after),
+        }
     }
 }
 
@@ -42,7 +53,7 @@ pub enum Piece<'a> {
 /// A decoder of UTF-8 that comes in pieces. Between calls it keeps an incomplete sequence of at most three bytes: the
 /// pending bytes.
 ///
-/// Fed any bytes in any pieces into any rooms it yields the characters and the malformed sequences of those bytes, each
+/// Of any bytes, in any pieces and into destinations of any length, it yields the characters and the malformed sequences, each
 /// once and in order. It reports each malformed sequence; the caller writes U+FFFD for it or stops.
 ///
 /// ```

@@ -4,7 +4,8 @@
 //! - [`mem`]: checks and conversions of whole buffers;
 //! - [`ascii`] and [`utf_8`]: the calls it is built on;
 //! - [`utf_16`]: UTF-16LE and UTF-16BE;
-//! - [`Utf8Decoder`] and [`Utf8Encoder`]: streams in any pieces, into destinations of any length;
+//! - [`Encoding`] and [`Decoder`]: UTF-8, UTF-16LE and UTF-16BE in any pieces, with byte order marks and replacement;
+//! - [`Utf8Decoder`], [`Utf16Decoder`] and [`Utf8Encoder`]: streams in any pieces, into destinations of any length;
 //! - [`repair`], [`repair_to`], [`repair_slice_partial`], [`utf8_chunks`], [`next_malformed`] and [`next_malformation`]: bytes that may be
 //!   malformed UTF-8;
 //! - [`utf8_count`], [`utf16_count`] and [`repaired_utf8_length`]: exact counts, also of such bytes;
@@ -67,6 +68,7 @@ mod c;
 mod chunks;
 mod count;
 pub mod decoder;
+mod encoding;
 pub mod mem;
 pub mod promises;
 #[cfg(feature = "alloc")]
@@ -80,11 +82,13 @@ pub mod utf_8;
 pub use chunks::{next_malformation, next_malformed, utf8_chunks, Malformation, Utf8Chunk, Utf8Chunks};
 pub use count::{repaired_utf8_length, utf16_count, utf8_count};
 pub use decoder::{DecoderResult, Utf8Decoder};
+pub use encoding::{CoderResult, Decoder, Encoding, UTF_16BE, UTF_16LE, UTF_8};
 #[cfg(feature = "alloc")]
 pub use repair::repair;
 #[cfg(feature = "std")]
 pub use repair::repair_to;
 pub use replacing::repair_slice_partial;
 #[cfg(feature = "std")]
-pub use streams::{DecodeUtf16, Repair};
+pub use streams::{DecodeUtf16, Repair, StreamMalformation};
+pub use utf_16::Utf16Decoder;
 pub use utf_8::{EncoderResult, Utf8Encoder};

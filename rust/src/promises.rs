@@ -33,8 +33,8 @@
 //! | `is_str_latin1`, `str_latin1_up_to`, `is_str_bidi`, `check_str_for_latin1_and_bidi` | all that is said, if the source is well-formed | nothing |
 //! | `copy_ascii_to_ascii`, `copy_ascii_to_basic_latin`, `copy_basic_latin_to_ascii`, `convert_utf8_to_utf16`, `convert_utf8_to_utf16_without_replacement`, `convert_latin1_to_utf16`, `convert_latin1_to_utf8`, `convert_utf16_to_utf8`, `convert_utf16_to_latin1_lossy` | what is written, and how much, into a destination that is long enough | the check that it is, which panics before anything is written |
 //! | `convert_str_to_utf16` | the same, if the source is well-formed | that check |
-//! | `convert_latin1_to_utf8_partial`, `convert_utf8_to_utf16_partial`, `convert_utf16_to_utf8_partial` | all that is said | nothing |
-//! | `convert_utf16_to_str_partial`, `convert_latin1_to_str_partial` | what is written, and how much | what is cleared after it, and that the destination is text then |
+//! | `convert_latin1_to_utf8_partial`, `convert_utf8_to_utf16_partial`, `convert_utf16_to_utf8_partial`, `convert_utf16_to_utf8_partial_with_count` | all that is said | nothing |
+//! | `convert_utf16_to_str_partial`, `convert_utf16_to_str_partial_with_count`, `convert_latin1_to_str_partial` | what is written, and how much; the count | what is cleared after it, and that the destination is text then |
 //! | `convert_utf16_to_str`, `convert_latin1_to_str` | what is written, and how much, into a destination that is long enough | that check, and the same |
 //! | `convert_utf8_to_latin1_lossy` | what is written, and how much, if the source is Latin1 in UTF-8 and the destination long enough | that check, and the result for any other source |
 //! | `decode_latin1`, `encode_latin1_lossy` | the ASCII prefix, and the conversion of the rest | the allocation, joining the two, and the result for a text that is not Latin1 |
@@ -67,6 +67,29 @@
 //! | `in_neutral_state`, `decode_to_utf16_raw`, `decode_to_utf8_raw`, `decode_borrowed` | all that is said | nothing |
 //! | `max_utf16_buffer_length`, `max_utf8_buffer_length`, `max_utf8_buffer_length_without_replacement` | the number | distinguishing `usize::MAX` as a result from a greater number |
 //!
+//! # Encodings
+//!
+//! Their [promises](../../../../../docs/PROMISES.md#encoding_streamsdecoder).
+//!
+//! | Calls of [`Encoding`](crate::Encoding) and [`Decoder`](crate::Decoder) | Proved | The crate's own |
+//! |---|---|---|
+//! | `for_bom` | the encoding and the length of the mark | an `Option` of them |
+//! | `name`, `new_decoder`, `new_decoder_with_bom_removal`, `new_decoder_without_bom_handling`, `encoding` | what the storage of a decoder represents | the numbers in it, and the name |
+//! | `decode`, `decode_with_bom_removal`, `decode_without_bom_handling`, `decode_without_bom_handling_and_without_replacement` | the calls that they make: `for_bom`, one call of a decoder or a repair | the allocation, and the choice between these |
+//! | `decode_to_utf8`, `decode_to_utf16`, `decode_to_utf8_without_replacement`, `decode_to_utf16_without_replacement` | all that is said | nothing |
+//! | `decode_to_str`, `decode_to_str_without_replacement`, `decode_to_string`, `decode_to_string_without_replacement` | what is written, and how much | what is cleared after it, and that the destination is text then |
+//! | `max_utf16_buffer_length`, `max_utf8_buffer_length`, `max_utf8_buffer_length_without_replacement`, `latin1_byte_compatible_up_to` | the number, or `usize::MAX` if it is that or greater, or if there is none | an `Option` of it |
+//!
+//! # UTF-16 decoder
+//!
+//! Its [promises](../../../../../docs/PROMISES.md#encoding_streamsutf16_decoder).
+//!
+//! | Calls of [`Utf16Decoder`](crate::Utf16Decoder) | Proved | The crate's own |
+//! |---|---|---|
+//! | `new` | nothing pending, if a decoder is all zero but for the byte order | that it is |
+//! | `in_neutral_state`, `decode_to_utf16_raw`, `decode_to_utf8_raw` | all that is said | nothing |
+//! | `max_utf16_buffer_length`, `max_utf8_buffer_length`, `max_utf8_buffer_length_without_replacement` | the number, or `usize::MAX` if it is greater | an `Option` of it |
+//!
 //! # Encoder
 //!
 //! Its [promises](../../../../../docs/PROMISES.md#encoding_textutf_8).
@@ -74,8 +97,8 @@
 //! | Calls of [`Utf8Encoder`](crate::Utf8Encoder) | Proved | The crate's own |
 //! |---|---|---|
 //! | `new_inner` | nothing pending, if an encoder is all zero | that it is |
-//! | `encode_from_utf16_raw` | all that is said | nothing |
-//! | `encode_from_utf8_raw` | U+FFFD for the pending surrogate | the copy of the text |
+//! | `encode_from_utf16_raw`, `encode_from_utf16_with_count` | all that is said | nothing |
+//! | `encode_from_utf8_raw`, `encode_from_utf8_with_count` | U+FFFD for the pending surrogate | the copy of the text, and the count |
 //! | `max_buffer_length_from_utf16_without_replacement`, `max_buffer_length_from_utf8_without_replacement` | the number | distinguishing `usize::MAX` as a result from a greater number |
 //!
 //! # Counts
@@ -110,9 +133,9 @@
 //! # Streams
 //!
 //! The [promises](../../../../../docs/PROMISES.md#encoding_textdecoder) of one call of the decoder, and
-//! [laws](../../../../../docs/PROMISES.md#encoding_runslaws) about any sequence of calls: in any pieces and rooms,
-//! they yield the characters and malformed sequences of the whole.
+//! [laws](../../../../../docs/PROMISES.md#encoding_runslaws) about any sequence of calls: in any pieces, and into
+//! destinations of any length, they yield the characters and malformed sequences of the whole.
 //!
 //! | Readers | Proved | The crate's own |
 //! |---|---|---|
-//! | [`Repair`](crate::Repair), [`DecodeUtf16`](crate::DecodeUtf16) | the calls of the decoder that they make | the loop that passes the reader's bytes to it, each once and in order, and what it returns to the caller |
+//! | [`Repair`](crate::Repair), [`DecodeUtf16`](crate::DecodeUtf16) | the calls of the decoder that they make | the loop that passes the reader's bytes to it, each once and in order, what it returns to the caller, and the offset of a malformed sequence, by the counts of these calls |

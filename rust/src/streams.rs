@@ -1,6 +1,6 @@
 //! Readers of text over readers of bytes.
 
-use crate::{DecoderResult, Utf8Decoder};
+use crate::{next_malformation, DecoderResult, Malformation, Utf8Decoder};
 use std::fmt;
 use std::io::{self, Read};
 use std::vec::Vec;
@@ -88,6 +88,53 @@ impl<U: Unit> Waiting<U> {
     }
 }
 
+/// A malformed sequence in a stream.
+#[derive(Clone, Copy, Debug, PartialEq, Eq, Hash)]
+pub struct StreamMalformation {
+    /// The offset of its first byte from the start of the stream.
+    pub offset: u64,
+    /// Its length in bytes, one to three.
+    pub length: u8,
+    /// Why it is malformed.
+    pub kind: Malformation,
+}
+
+/// The most bytes of a malformed sequence.
+const LONGEST: usize = 3;
+
+/// How many bytes of a stream were read, and the last ones of these.
+#[derive(Default)]
+struct Position {
+    offset: u64,
+    last: [u8; LONGEST],
+}
+
+impl Position {
+    /// Moves to after these bytes.
+    fn advance(&mut self, read: &[u8]) {
+        self.offset += read.len() as u64;
+        let kept = LONGEST - read.len().min(LONGEST);
+        self.last.copy_within(LONGEST - kept.., 0);
+        self.last[kept..].copy_from_slice(&read[read.len() - (LONGEST - kept)..]);
+    }
+
+    /// Returns the malformed sequence of this length that ends here, before the unread bytes.
+    fn malformed(&self, length: u8, unread: &[u8]) -> StreamMalformation {
+        let count = usize::from(length);
+        let mut bytes = [0; LONGEST + 1];
+        bytes[..count].copy_from_slice(&self.last[LONGEST - count..]);
+        let following = unread.len().min(1);
+        bytes[count..count + following].copy_from_slice(&unread[..following]);
+        let found = next_malformation(&bytes[..count + following]);
+        StreamMalformation {
+            offset: self.offset - u64::from(length),
+            length,
+            // the decoder found one in the same bytes
+            kind: found.map_or(Malformation::IncompleteAtEnd, |(_, kind)| kind),
+        }
+    }
+}
+
 /// The characters of a reader's bytes, with U+FFFD for each malformed sequence.
 struct Decoding<R, U> {
     reader: R,
@@ -98,6 +145,7 @@ struct Decoding<R, U> {
     decoder: Utf8Decoder,
     waiting: Waiting<U>,
     replaced: u64,
+    position: Position,
 }
 
 impl<R, U: Unit> Decoding<R, U> {
@@ -111,6 +159,7 @@ impl<R, U: Unit> Decoding<R, U> {
             decoder: Utf8Decoder::new_inner(),
             waiting: Waiting::default(),
             replaced: 0,
+            position: Position::default(),
         }
     }
 
@@ -119,23 +168,25 @@ impl<R, U: Unit> Decoding<R, U> {
     fn step(&mut self, room: &mut [U]) -> (DecoderResult, usize) {
         let src = &self.block[self.start..self.end];
         let (result, read, written) = U::decode(&mut self.decoder, src, room, self.is_ended);
+        self.position.advance(&src[..read]);
         self.start += read;
         (result, written)
     }
 
-    /// Queues U+FFFD for a malformed sequence.
-    fn replace(&mut self) {
+    /// Queues U+FFFD for a malformed sequence of this length, and tells where it is.
+    fn replace(&mut self, length: u8, found: &mut impl FnMut(StreamMalformation)) {
         self.replaced += 1;
         self.waiting.push(U::REPLACEMENT);
+        found(self.position.malformed(length, &self.block[self.start..self.end]));
     }
 
     /// Queues the next characters, if the caller's buffer is too short for one.
-    fn decode_apart(&mut self) {
+    fn decode_apart(&mut self, found: &mut impl FnMut(StreamMalformation)) {
         let mut units = [U::default(); ANY_CHARACTER];
         let (result, count) = self.step(&mut units);
         self.waiting.push(&units[..count]);
-        if let DecoderResult::Malformed(..) = result {
-            self.replace();
+        if let DecoderResult::Malformed(length, _) = result {
+            self.replace(length, found);
         }
     }
 }
@@ -156,7 +207,7 @@ impl<R: Read, U: Unit> Decoding<R, U> {
     }
 
     /// Writes whole characters into the buffer. Asks the reader only if there is none to write.
-    fn read(&mut self, buffer: &mut [U]) -> io::Result<usize> {
+    fn read(&mut self, buffer: &mut [U], mut found: impl FnMut(StreamMalformation)) -> io::Result<usize> {
         let mut written = 0;
         if buffer.is_empty() {
             return Ok(0);
@@ -171,9 +222,9 @@ impl<R: Read, U: Unit> Decoding<R, U> {
             let (result, count) = self.step(&mut buffer[written..]);
             written += count;
             match result {
-                DecoderResult::Malformed(..) => self.replace(),
+                DecoderResult::Malformed(length, _) => self.replace(length, &mut found),
                 _ if written > 0 => return Ok(written),
-                DecoderResult::OutputFull => self.decode_apart(),
+                DecoderResult::OutputFull => self.decode_apart(&mut found),
                 DecoderResult::InputEmpty if self.is_ended => return Ok(0),
                 DecoderResult::InputEmpty => self.fill()?,
             }
@@ -204,6 +255,24 @@ macro_rules! reader {
             #[must_use]
             pub fn replaced(&self) -> u64 {
                 self.decoding.replaced
+            }
+
+            /// Reads as `read` does, and calls `found` for each malformed sequence of the stream, in order, once U+FFFD
+            /// for it is returned or waits to be.
+            ///
+            /// # Errors
+            ///
+            /// Returns the errors of the inner reader.
+            #[inline]
+            pub fn read_reporting(
+                &mut self,
+                buffer: &mut [$unit],
+                found: impl FnMut(StreamMalformation),
+            ) -> io::Result<usize>
+            where
+                R: Read,
+            {
+                self.decoding.read(buffer, found)
             }
 
             /// Returns the inner reader.
@@ -241,7 +310,7 @@ reader! {
     /// interruption, are passed on, and nothing is lost. Requires the feature `std`.
     ///
     /// Each call of the decoder is [proved](crate::promises#streams), and also that such calls yield the text of the
-    /// whole, in any pieces and rooms. The loop around them, the block of bytes and the characters that wait are the
+    /// whole, in any pieces. The loop around them, the block of bytes and the characters that wait are the
     /// crate's.
     ///
     /// # Panics
@@ -255,6 +324,11 @@ reader! {
     /// let mut text = String::new();
     /// reader.read_to_string(&mut text)?;
     /// assert_eq!((text.as_str(), reader.replaced()), ("a\u{2603}\u{FFFD}Z", 1));
+    ///
+    /// let mut reader = encoding_text::Repair::new(&b"a\xE2\x98Z\xFF"[..]);
+    /// let mut places = Vec::new();
+    /// while reader.read_reporting(&mut [0; 64], |found| places.push((found.offset, found.length)))? > 0 {}
+    /// assert_eq!(places, [(1, 2), (4, 1)]);
     /// # Ok::<(), std::io::Error>(())
     /// ```
     Repair, u8
@@ -263,7 +337,7 @@ reader! {
 impl<R: Read> Read for Repair<R> {
     #[inline]
     fn read(&mut self, buffer: &mut [u8]) -> io::Result<usize> {
-        self.decoding.read(buffer)
+        self.decoding.read(buffer, |_| {})
     }
 }
 
@@ -275,7 +349,7 @@ reader! {
     /// errors, even an interruption, are passed on, and nothing is lost. Requires the feature `std`.
     ///
     /// Each call of the decoder is [proved](crate::promises#streams), and also that such calls yield the text of the
-    /// whole, in any pieces and rooms. The loop around them, the block of bytes and the characters that wait are the
+    /// whole, in any pieces. The loop around them, the block of bytes and the characters that wait are the
     /// crate's.
     ///
     /// # Panics
@@ -303,6 +377,6 @@ impl<R: Read> DecodeUtf16<R> {
     /// Returns the errors of the inner reader. Nothing has been written then.
     #[inline]
     pub fn read(&mut self, buffer: &mut [u16]) -> io::Result<usize> {
-        self.decoding.read(buffer)
+        self.decoding.read(buffer, |_| {})
     }
 }

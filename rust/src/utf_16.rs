@@ -1,7 +1,10 @@
-//! UTF-16LE and UTF-16BE: bytes to code units, and back. Encoding Standard, sections 14.3 and 14.4. No code unit is
-//! checked: surrogates may be unpaired.
+//! UTF-16LE and UTF-16BE: bytes to code units, and back, and a streaming decoder. Encoding Standard, sections 14.3 and
+//! 14.4. The conversions of whole buffers check no code unit: surrogates may be unpaired. The decoder reports these.
+
+mod decoder;
 
 use crate::c;
+pub use decoder::Utf16Decoder;
 
 /// The order of the two bytes of a code unit.
 #[derive(Clone, Copy, Debug, PartialEq, Eq, Hash)]

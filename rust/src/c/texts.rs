@@ -65,6 +65,16 @@ pub(crate) fn convert_utf16_to_str_partial(src: &[u16], dst: &mut str) -> (usize
     counts.into()
 }
 
+/// Does the same, and counts the unpaired surrogates that it replaces.
+#[inline]
+pub(crate) fn convert_utf16_to_str_partial_with_count(src: &[u16], dst: &mut str) -> (usize, usize, usize) {
+    // SAFETY: as in the function above.
+    let bytes = unsafe { dst.as_bytes_mut() };
+    let counts = encoding_text_mem_convert_utf16_to_utf8_partial_with_count(src, bytes);
+    clear(&mut bytes[counts.written..], 0);
+    counts.into()
+}
+
 /// Converts into a prefix of a text, and sets the sixteen bytes after that, and the continuation bytes that follow, to
 /// zero.
 #[inline]
@@ -75,6 +85,103 @@ pub(crate) fn convert_latin1_to_str_partial(src: &[u8], dst: &mut str) -> (usize
     let counts = encoding_text_mem_convert_latin1_to_utf8_partial(src, bytes);
     clear(&mut bytes[counts.written..], crate::ascii::MAX_STRIDE_SIZE);
     counts.into()
+}
+
+/// Decodes into a prefix of a text, and sets the continuation bytes that have lost their first byte to zero.
+#[inline]
+pub(crate) fn decode_to_str(state: &mut StreamDecoder, src: &[u8], dst: &mut str, last: bool) -> CoderResult {
+    // SAFETY: the decoder writes the UTF-8 of whole characters and leaves the rest unchanged. What is left of a cut
+    // character there are continuation bytes, and these become zero before the borrow ends.
+    let bytes = unsafe { dst.as_bytes_mut() };
+    let done = encoding_text_decoder_decode_to_utf8(state, src, bytes, last);
+    clear(&mut bytes[done.written..], 0);
+    done
+}
+
+/// The same, up to a malformed sequence.
+#[inline]
+pub(crate) fn decode_to_str_without_replacement(
+    state: &mut StreamDecoder,
+    src: &[u8],
+    dst: &mut str,
+    last: bool,
+) -> DecoderCallResult {
+    // SAFETY: as in `decode_to_str`.
+    let bytes = unsafe { dst.as_bytes_mut() };
+    let done = encoding_text_decoder_decode_to_utf8_without_replacement(state, src, bytes, last);
+    clear(&mut bytes[done.written..], 0);
+    done
+}
+
+/// A call of the decoder that writes UTF-8.
+#[cfg(feature = "alloc")]
+type Decoding<R> = unsafe extern "C" fn(*mut StreamDecoder, *const u8, usize, *mut u8, usize, bool) -> R;
+
+/// Decodes into the spare capacity of a text, which grows by what is written.
+///
+/// # Safety
+///
+/// The call is a function of the library that writes whole characters, and `length` returns the number of bytes that it
+/// wrote.
+#[cfg(feature = "alloc")]
+#[inline]
+unsafe fn decode_into<R>(
+    state: &mut StreamDecoder,
+    src: &[u8],
+    text: &mut String,
+    last: bool,
+    decode: Decoding<R>,
+    length: impl Fn(&R) -> usize,
+) -> R {
+    // SAFETY: only whole characters are appended.
+    let to = unsafe { text.as_mut_vec() };
+    let spare = to.spare_capacity_mut();
+    // SAFETY: it reads the elements of the slice, and works within the spare capacity and the state, which are borrowed
+    // uniquely. What it returns and writes is promised for any bytes that were there before.
+    let done = unsafe {
+        decode(
+            state,
+            src.as_ptr(),
+            src.len(),
+            spare.as_mut_ptr().cast(),
+            spare.len(),
+            last,
+        )
+    };
+    // SAFETY: the first bytes of the spare capacity, as many as it wrote, are initialized now.
+    unsafe { to.set_len(to.len() + length(&done)) };
+    done
+}
+
+/// Decodes into the spare capacity of a text.
+#[cfg(feature = "alloc")]
+#[inline]
+pub(crate) fn decode_to_string(state: &mut StreamDecoder, src: &[u8], dst: &mut String, last: bool) -> CoderResult {
+    // SAFETY: it is a function of the library, writes whole characters, and returns how many bytes it wrote.
+    unsafe {
+        decode_into(
+            state,
+            src,
+            dst,
+            last,
+            raw::encoding_text_decoder_decode_to_utf8,
+            |done| done.written,
+        )
+    }
+}
+
+/// The same, up to a malformed sequence.
+#[cfg(feature = "alloc")]
+#[inline]
+pub(crate) fn decode_to_string_without_replacement(
+    state: &mut StreamDecoder,
+    src: &[u8],
+    dst: &mut String,
+    last: bool,
+) -> DecoderCallResult {
+    let decode = raw::encoding_text_decoder_decode_to_utf8_without_replacement;
+    // SAFETY: it is a function of the library, writes whole characters, and returns how many bytes it wrote.
+    unsafe { decode_into(state, src, dst, last, decode, |done| done.written) }
 }
 
 /// Sets the first `zeros` bytes to zero, or all if there are fewer, and the continuation bytes that follow.

@@ -95,6 +95,21 @@ pub fn convert_utf16_to_utf8_partial(src: &[u16], dst: &mut [u8]) -> (usize, usi
     c::encoding_text_mem_convert_utf16_to_utf8_partial(src, dst).into()
 }
 
+/// Converts as [`convert_utf16_to_utf8_partial`] does. Returns the number of code units read, the number of bytes written,
+/// and how many of those code units are unpaired surrogates: U+FFFD was written for each.
+///
+/// [Proved](crate::promises#mem).
+///
+/// ```
+/// use encoding_text::mem::convert_utf16_to_utf8_partial_with_count;
+/// let mut bytes = [0; 8];
+/// assert_eq!(convert_utf16_to_utf8_partial_with_count(&[0x61, 0xD83D, 0x62], &mut bytes), (3, 5, 1));
+/// ```
+#[inline]
+pub fn convert_utf16_to_utf8_partial_with_count(src: &[u16], dst: &mut [u8]) -> (usize, usize, usize) {
+    c::encoding_text_mem_convert_utf16_to_utf8_partial_with_count(src, dst).into()
+}
+
 /// Converts all code units, with U+FFFD for each unpaired surrogate, and returns the number of bytes written.
 ///
 /// [Proved](crate::promises#mem).
@@ -121,6 +136,16 @@ pub fn convert_utf16_to_utf8(src: &[u16], dst: &mut [u8]) -> usize {
 #[inline]
 pub fn convert_utf16_to_str_partial(src: &[u16], dst: &mut str) -> (usize, usize) {
     c::convert_utf16_to_str_partial(src, dst)
+}
+
+/// [`convert_utf16_to_utf8_partial_with_count`] into a text. The continuation bytes directly after what is written become
+/// zero.
+///
+/// What is written, and the count, are [proved](crate::promises#mem). The crate clears the bytes after it, so the
+/// destination is not scanned.
+#[inline]
+pub fn convert_utf16_to_str_partial_with_count(src: &[u16], dst: &mut str) -> (usize, usize, usize) {
+    c::convert_utf16_to_str_partial_with_count(src, dst)
 }
 
 /// [`convert_utf16_to_utf8`] into a text. The continuation bytes directly after what is written become zero.

@@ -83,6 +83,36 @@ impl Utf8Encoder {
         (ended(encoded.result), encoded.read, encoded.written)
     }
 
+    /// Encodes as [`Utf8Encoder::encode_from_utf16_raw`] does. Returns also how many unpaired surrogates were replaced with
+    /// U+FFFD. One that became pending in an earlier call counts in the call that replaces it.
+    ///
+    /// [Proved](crate::promises#encoder).
+    #[inline]
+    pub fn encode_from_utf16_with_count(
+        &mut self,
+        src: &[u16],
+        dst: &mut [u8],
+        last: bool,
+    ) -> (EncoderResult, usize, usize, usize) {
+        let encoded = c::encoding_text_utf8_encoder_encode_from_utf16_with_count(&mut self.state, src, dst, last);
+        (ended(encoded.result), encoded.read, encoded.written, encoded.replaced)
+    }
+
+    /// Encodes as [`Utf8Encoder::encode_from_utf8_raw`] does. Returns also how many unpaired surrogates were replaced with
+    /// U+FFFD: 1 if one was pending and U+FFFD fits, else 0.
+    #[inline]
+    pub fn encode_from_utf8_with_count(
+        &mut self,
+        src: &str,
+        dst: &mut [u8],
+        last: bool,
+    ) -> (EncoderResult, usize, usize, usize) {
+        let before = self.max_buffer_length_from_utf8_without_replacement(0);
+        let (result, read, written) = self.encode_from_utf8_raw(src, dst, last);
+        let after = self.max_buffer_length_from_utf8_without_replacement(0);
+        (result, read, written, usize::from(before != after))
+    }
+
     /// Writes U+FFFD for the pending surrogate and then as many whole characters of the text as fit. Returns why the
     /// call ended, the number of bytes of the text read and the number of bytes written. `last` has no effect: a text
     /// never ends within a character, and U+FFFD is written at once.

@@ -304,3 +304,20 @@ fn queries() {
     assert_queries("D83D", usize::MAX - 3, None, Some(usize::MAX));
     assert_queries("D83D", usize::MAX - 2, None, None);
 }
+
+/// A pending surrogate counts once U+FFFD is written for it.
+#[test]
+fn counts_what_is_replaced() {
+    let mut encoder = Utf8Encoder::new_inner();
+    let mut dst = [0; 9];
+    let high = encoder.encode_from_utf16_with_count(&[0xD83D], &mut dst, false);
+    assert_eq!(high, (EncoderResult::InputEmpty, 1, 0, 0));
+    let others = encoder.encode_from_utf16_with_count(&[0xDCA9, 0xDC00, 0xD83D], &mut dst, false);
+    assert_eq!(others, (EncoderResult::InputEmpty, 3, 7, 1));
+    let full = encoder.encode_from_utf8_with_count("b", &mut dst[..2], true);
+    assert_eq!(full, (EncoderResult::OutputFull, 0, 0, 0));
+    let replaced = encoder.encode_from_utf8_with_count("b", &mut dst, true);
+    assert_eq!(replaced, (EncoderResult::InputEmpty, 1, 4, 1));
+    let none = encoder.encode_from_utf8_with_count("b", &mut dst, true);
+    assert_eq!(none, (EncoderResult::InputEmpty, 1, 1, 0));
+}

@@ -5,8 +5,10 @@ mod common;
 
 mod decoder;
 mod encoder;
+mod encodings;
+mod indices;
 mod parts;
-mod places;
 mod random;
 mod runs;
 mod types;
+mod utf16;

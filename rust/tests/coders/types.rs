@@ -108,6 +108,10 @@ fn states() {
         utf_8::Utf8Encoder::encode_from_utf16_raw;
     let _: fn(&mut Utf8Encoder, &str, &mut [u8], bool) -> (EncoderResult, usize, usize) =
         utf_8::Utf8Encoder::encode_from_utf8_raw;
+    let _: fn(&mut Utf8Encoder, &[u16], &mut [u8], bool) -> (EncoderResult, usize, usize, usize) =
+        Utf8Encoder::encode_from_utf16_with_count;
+    let _: fn(&mut Utf8Encoder, &str, &mut [u8], bool) -> (EncoderResult, usize, usize, usize) =
+        Utf8Encoder::encode_from_utf8_with_count;
 }
 
 /// Numbers, so that a `Latin1Bidi` may be passed to C. Results may be compared, printed and sent to other threads.

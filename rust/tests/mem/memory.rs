@@ -80,7 +80,7 @@ fn counted<R>(call: impl FnOnce() -> R) -> (R, Counts) {
     (result, COUNTS.get())
 }
 
-/// Returns the counts of one request, of which so many bytes are in use.
+/// Returns the counts of one request, of which `in_use` bytes are still in use.
 fn one(requested: usize, in_use: usize) -> Counts {
     Counts {
         requests: 1,

@@ -6,6 +6,8 @@ mod faults;
 
 mod long;
 #[cfg(feature = "std")]
+mod places;
+#[cfg(feature = "std")]
 mod readers;
 #[cfg(feature = "std")]
 mod repair;
