@@ -13,6 +13,8 @@ they aren't in one piece, and MemoryError.
 
 Other threads run while a function reads 64 KiB or more of a bytes object. Another thread could change any other object,
 so the functions don't let others run while they read it.
+
+The module encoding_text.codec has codecs of UTF-8, UTF-16LE and UTF-16BE, with byte order marks, for Python's codecs.
 """
 from encoding_text import _native
 from encoding_text._native import IncrementalRepair, is_utf8, malformed, repair, valid_up_to

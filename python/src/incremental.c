@@ -5,12 +5,16 @@
 #include "output.h"
 #include "source.h"
 
+#include <string.h>
+
 #define FOR_PENDING 16 /* bytes: a call of the library needs four, and writes at most six for pending bytes */
+#define REPLACEMENT_LENGTH 3 /* bytes of U+FFFD */
 
 typedef struct {
     PyObject_HEAD
     encoding_text_utf8_decoder decoder;
     unsigned long long replaced;
+    unsigned long long offset; /* how many bytes were read */
 } incremental;
 
 /* Repairs bytes without a call of Python. Returns false if there is no memory. */
@@ -40,7 +44,9 @@ static PyObject *repair_source(incremental *self, const encoding_source *source,
     size_t valid = encoding_text_utf8_decoder_in_neutral_state(&decoder) ? source_valid(source) : 0;
     size_t replaced = 0;
     if (valid == source->length && encoding_text_utf8_decoder_in_neutral_state(&decoder)) {
-        return output_unchanged(source);
+        PyObject *unchanged = output_unchanged(source);
+        self->offset += unchanged != NULL ? source->length : 0;
+        return unchanged;
     }
     output_begin(&out);
     PyThreadState *paused = source_pause(source, source->length - valid);
@@ -55,23 +61,101 @@ static PyObject *repair_source(incremental *self, const encoding_source *source,
     if (result != NULL) {
         self->decoder = decoder;
         self->replaced += replaced;
+        self->offset += source->length;
     }
     return result;
 }
 
-static PyObject *incremental_decode(PyObject *self, PyObject *arguments, PyObject *names)
+/* Appends the offset and the length of a malformed sequence to a list. Returns false with an exception if it fails. */
+static bool append_place(PyObject *places, unsigned long long offset, uint8_t length)
+{
+    PyObject *place = tuple_of(PyLong_FromUnsignedLongLong(offset), length);
+    const bool is_done = place != NULL && PyList_Append(places, place) == 0;
+    Py_XDECREF(place);
+    return is_done;
+}
+
+/* Repairs bytes, and appends the place of each malformed sequence to a list. Returns false with an exception if it fails. */
+static bool report_piece(encoding_text_utf8_decoder *decoder, const encoding_source *source, bool last,
+                         unsigned long long offset, encoding_output *out, PyObject *places)
+{
+    const uint8_t *bytes = source->bytes;
+    size_t length = source->length;
+    encoding_text_decode_result done;
+    do {
+        if (!output_reserve(out, length + length / 16 + FOR_PENDING, 0)) {
+            PyErr_NoMemory();
+            return false;
+        }
+        done = encoding_text_utf8_decoder_decode_to_utf8(decoder, bytes, length, out->text + out->written,
+                                                         out->space - out->written - REPLACEMENT_LENGTH, last);
+        bytes += done.read;
+        length -= done.read;
+        offset += done.read;
+        out->written += done.written;
+        if (done.result == ENCODING_TEXT_MALFORMED) {
+            memcpy(out->text + out->written, "\xEF\xBF\xBD", REPLACEMENT_LENGTH);
+            out->written += REPLACEMENT_LENGTH;
+            if (!append_place(places, offset - done.malformed_length, done.malformed_length)) {
+                return false;
+            }
+        }
+    } while (done.result != ENCODING_TEXT_INPUT_EMPTY);
+    return true;
+}
+
+/* Repairs the next piece, and returns its bytes and the places. If it fails, the object is unchanged. */
+static PyObject *report_source(incremental *self, const encoding_source *source, bool last)
+{
+    encoding_text_utf8_decoder decoder = self->decoder;
+    encoding_output out;
+    PyObject *places = PyList_New(0);
+    if (places == NULL) {
+        return NULL;
+    }
+    output_begin(&out);
+    if (!report_piece(&decoder, source, last, self->offset, &out, places)) {
+        output_free(&out);
+        Py_DECREF(places);
+        return NULL;
+    }
+    PyObject *bytes = output_end(&out, source, 0);
+    const Py_ssize_t count = PyList_Size(places);
+    PyObject *result = bytes == NULL ? NULL : Py_BuildValue("(NO)", bytes, places);
+    Py_DECREF(places);
+    if (result != NULL) {
+        self->decoder = decoder;
+        self->replaced += (unsigned long long)count;
+        self->offset += source->length;
+    }
+    return result;
+}
+
+/* Parses the arguments of a call, and calls one of the two functions above. */
+static PyObject *incremental_call(PyObject *self, PyObject *arguments, PyObject *names, const char *format,
+                                  PyObject *(*call)(incremental *, const encoding_source *, bool))
 {
     static char *keywords[] = {"input", "final", NULL};
     PyObject *input;
     int final = 0;
     encoding_source source;
-    if (!PyArg_ParseTupleAndKeywords(arguments, names, "O|p:decode", keywords, &input, &final)
+    if (!PyArg_ParseTupleAndKeywords(arguments, names, format, keywords, &input, &final)
         || !source_take(&source, input)) {
         return NULL;
     }
-    PyObject *result = repair_source((incremental *)self, &source, final != 0);
+    PyObject *result = call((incremental *)self, &source, final != 0);
     source_release(&source);
     return result;
+}
+
+static PyObject *incremental_report(PyObject *self, PyObject *arguments, PyObject *names)
+{
+    return incremental_call(self, arguments, names, "O|p:report", report_source);
+}
+
+static PyObject *incremental_decode(PyObject *self, PyObject *arguments, PyObject *names)
+{
+    return incremental_call(self, arguments, names, "O|p:decode", repair_source);
 }
 
 static PyObject *incremental_reset(PyObject *self, PyObject *none)
@@ -79,6 +163,7 @@ static PyObject *incremental_reset(PyObject *self, PyObject *none)
     (void)none;
     encoding_text_utf8_decoder_new(&((incremental *)self)->decoder);
     ((incremental *)self)->replaced = 0;
+    ((incremental *)self)->offset = 0;
     Py_RETURN_NONE;
 }
 
@@ -145,9 +230,15 @@ PyDoc_STRVAR(decode_doc,
              "Return the next bytes, with U+FFFD for each malformed sequence.\n\n"
              "If final is true, an incomplete sequence at the end is malformed. If the call fails,\n"
              "the object is unchanged.");
+PyDoc_STRVAR(report_doc,
+             "report($self, /, input, final=False)\n--\n\n"
+             "Return what decode() returns, and a list of the malformed sequences that it replaced, as\n"
+             "(offset, length).\n\n"
+             "Offsets count all bytes since the last reset(), or since the object was made. If the call\n"
+             "fails, the object is unchanged. Other threads wait for it.");
 PyDoc_STRVAR(reset_doc,
              "reset($self, /)\n--\n\n"
-             "Forget an incomplete sequence, and set replaced to 0.");
+             "Forget an incomplete sequence, and set replaced and the offset to 0.");
 PyDoc_STRVAR(getstate_doc,
              "getstate($self, /)\n--\n\n"
              "Return the incomplete sequence and 0.");
@@ -157,6 +248,7 @@ PyDoc_STRVAR(setstate_doc,
 
 static PyMethodDef methods[] = {
     {"decode", (PyCFunction)(void (*)(void))incremental_decode, METH_VARARGS | METH_KEYWORDS, decode_doc},
+    {"report", (PyCFunction)(void (*)(void))incremental_report, METH_VARARGS | METH_KEYWORDS, report_doc},
     {"reset", incremental_reset, METH_NOARGS, reset_doc},
     {"getstate", incremental_getstate, METH_NOARGS, getstate_doc},
     {"setstate", incremental_setstate, METH_O, setstate_doc},

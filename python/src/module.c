@@ -12,6 +12,7 @@
 typedef struct {
     PyObject *malformed;
     PyObject *incremental;
+    PyObject *decoder;
 } module_state;
 
 /* Returns the length of the longest well-formed prefix, and stores that of all bytes. Returns -1 with an exception if
@@ -80,7 +81,9 @@ static int module_exec(PyObject *module)
     module_state *state = PyModule_GetState(module);
     if ((state->malformed = PyType_FromSpec(&malformed_spec)) == NULL
         || (state->incremental = PyType_FromSpec(&incremental_spec)) == NULL
-        || PyObject_SetAttrString(module, "IncrementalRepair", state->incremental) != 0) {
+        || (state->decoder = PyType_FromSpec(&decoder_spec)) == NULL
+        || PyObject_SetAttrString(module, "IncrementalRepair", state->incremental) != 0
+        || PyObject_SetAttrString(module, "Decoder", state->decoder) != 0) {
         return -1;
     }
     return PyModule_AddStringConstant(module, "__version__", VERSION);
@@ -92,6 +95,7 @@ static int module_traverse(PyObject *module, visitproc visit, void *arg)
     if (state != NULL) { /* before 3.9 the call may come earlier */
         Py_VISIT(state->malformed);
         Py_VISIT(state->incremental);
+        Py_VISIT(state->decoder);
     }
     return 0;
 }
@@ -102,6 +106,7 @@ static int module_clear(PyObject *module)
     if (state != NULL) {
         Py_CLEAR(state->malformed);
         Py_CLEAR(state->incremental);
+        Py_CLEAR(state->decoder);
     }
     return 0;
 }

@@ -5,6 +5,7 @@
 #define PY_SSIZE_T_CLEAN
 #include <Python.h>
 
+extern PyType_Spec decoder_spec;     /* Decoder, for the codecs */
 extern PyType_Spec incremental_spec; /* IncrementalRepair */
 extern PyType_Spec malformed_spec;   /* the iterator over malformed sequences */
 

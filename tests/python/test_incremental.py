@@ -61,6 +61,38 @@ class Incremental(unittest.TestCase):
         for data in texts.long():
             self.check(data, pieces(data, generator, 300000))
 
+    def test_places(self):
+        generator = random.Random(6)
+        for data in texts.some(5):
+            if len(data) > 20000:
+                continue
+            repair, repaired, places = encoding_text.IncrementalRepair(), [], []
+            for part in pieces(data, generator, 7):
+                if generator.randrange(4) == 0:
+                    before = repair.replaced
+                    repaired.append(repair.decode(part))
+                    places += [None] * (repair.replaced - before)
+                else:
+                    text, found = repair.report(part)
+                    repaired.append(text)
+                    places += found
+            text, found = repair.report(b'', final=True)
+            self.assertEqual(b''.join(repaired + [text]), texts.text(data).encode())
+            wanted = list(encoding_text.malformed(data))
+            places += found
+            self.assertEqual(len(places), len(wanted))
+            self.assertEqual([place or one for place, one in zip(places, wanted)], wanted)
+            self.assertEqual((repair.replaced, repair.getstate()), (len(wanted), (b'', 0)))
+
+    def test_places_after_a_reset(self):
+        repair = encoding_text.IncrementalRepair()
+        self.assertEqual(repair.report(b'abc\xff\xe2'), (b'abc\xef\xbf\xbd', [(3, 1)]))
+        self.assertEqual(repair.report(b'\x98Z'), (b'\xef\xbf\xbdZ', [(4, 2)]))
+        repair.reset()
+        self.assertEqual(repair.report(bytearray(b'\xff'), True), (b'\xef\xbf\xbd', [(0, 1)]))
+        self.assertEqual(repair.report(input=b'', final=True), (b'', []))
+        self.assertRaises(TypeError, repair.report, 'text')
+
     def test_final_with_bytes(self):
         repair = encoding_text.IncrementalRepair()
         self.assertEqual(repair.decode(b'a\xe2', True), b'a\xef\xbf\xbd')

@@ -9,6 +9,7 @@ import tracemalloc
 import unittest
 
 import encoding_text
+import encoding_text.codec
 
 try:
     import _testcapi
@@ -29,6 +30,10 @@ def iterate(data):
     return list(encoding_text.malformed(data))
 
 
+def decode(data):
+    return encoding_text.codec.IncrementalDecoder('replace').decode(data, True)
+
+
 CALLS = [encoding_text.repair, encoding_text.is_utf8, encoding_text.valid_up_to, iterate, incremental]
 
 # Limits the memory of the process to what it has and a little more, and repairs more than that.
@@ -44,6 +49,24 @@ for call in (encoding_text.repair, repair.decode):
         call(data)
     except MemoryError:
         print('MemoryError', repair.getstate(), repair.replaced)
+'''
+
+# The same with memory for the first buffer of a result, and not for the longer one that malformed bytes need.
+HALF = '''
+import codecs, encoding_text.codec, resource
+codecs.register(encoding_text.codec.search)
+data = b'\\xff' * (32 << 20)
+repair = encoding_text.IncrementalRepair()
+text = codecs.getincrementaldecoder('encoding_text_utf_8')('replace')
+for each in (repair, text):
+    each.decode(b'a\\xe2')
+pages = int(open('/proc/self/statm').read().split()[0])
+resource.setrlimit(resource.RLIMIT_AS, ((pages << 12) + (64 << 20),) * 2)
+for each, call in ((repair, repair.decode), (text, text.decode), (repair, repair.report)):
+    try:
+        call(data)
+    except MemoryError:
+        print('MemoryError', each.getstate()[0], repair.replaced)
 '''
 
 
@@ -74,22 +97,25 @@ class Memory(unittest.TestCase):
     @unittest.skipIf(_testcapi is None, 'this CPython has no _testcapi')
     def test_a_decode_that_fails_changes_nothing(self):
         for data in (b'\x98' + SHORT, 100 * SHORT, memoryview(100 * SHORT), LONG):
-            for final in (False, True):
+            for final, name in ((False, 'decode'), (True, 'decode'), (False, 'report'), (True, 'report')):
+                if name == 'report' and len(data) > 1000:
+                    continue  # it has an allocation for each place
                 repair = encoding_text.IncrementalRepair()
                 begin = repair.decode(b'\xff\xe2')
                 self.assertEqual((repair.getstate(), repair.replaced), ((b'\xe2', 0), 1))
-                rest = self.unchanged_until_it_succeeds(repair, data, final)
+                call = repair.decode if name == 'decode' else lambda *arguments: repair.report(*arguments)[0]
+                rest = self.unchanged_until_it_succeeds(repair, call, data, final)
                 rest += repair.decode(b'', True)
                 wanted = (b'\xff\xe2' + bytes(data)).decode('utf-8', 'replace')
                 self.assertEqual((begin + rest, repair.replaced), (wanted.encode(), wanted.count('\ufffd')))
 
-    def unchanged_until_it_succeeds(self, repair, data, final):
-        """Lets the first allocation fail, then the second, until a decode succeeds. Returns its result."""
+    def unchanged_until_it_succeeds(self, repair, call, data, final):
+        """Lets the first allocation fail, then the second, until a call succeeds. Returns its result."""
         before = repair.getstate(), repair.replaced
         for count in range(1_000_000):
             _testcapi.set_nomemory(count, count + 1)
             try:
-                found = repair.decode(data, final)
+                found = call(data, final)
             except MemoryError:
                 found = None
             finally:
@@ -103,6 +129,8 @@ class Memory(unittest.TestCase):
     def test_limit(self):
         done = subprocess.run([sys.executable, '-c', LIMITED], stdout=subprocess.PIPE, check=True, text=True)
         self.assertEqual(done.stdout, "MemoryError (b'\\xe2', 0) 0\n" * 2)
+        done = subprocess.run([sys.executable, '-c', HALF], stdout=subprocess.PIPE, check=True, text=True)
+        self.assertEqual(done.stdout, "MemoryError b'\\xe2' 0\n" * 3)
 
     def test_all_memory_is_freed(self):
         def many():
@@ -128,6 +156,14 @@ class Memory(unittest.TestCase):
         tracemalloc.stop()
         self.assertLess(after - before, 5000)
         self.assertLess(resource.getrusage(resource.RUSAGE_SELF).ru_maxrss - peak, 20_000)
+
+    def test_objects_let_go_of_their_types(self):
+        for make in (encoding_text.IncrementalRepair, lambda: encoding_text.malformed(SHORT)):
+            kind = type(make())
+            before = sys.getrefcount(kind)
+            for _ in range(100):
+                make()
+            self.assertEqual(sys.getrefcount(kind), before, kind)
 
     def test_iterator_in_a_cycle(self):
         class Holder(bytes):
@@ -176,7 +212,7 @@ class Threads(unittest.TestCase):
 
     def test_other_threads_run_from_64_kib_on(self):
         """Another thread runs while a call reads 64 KiB of bytes, and not while it reads one byte less."""
-        for call in (encoding_text.repair, encoding_text.is_utf8, encoding_text.valid_up_to, iterate, incremental):
+        for call in (encoding_text.repair, encoding_text.is_utf8, encoding_text.valid_up_to, iterate, incremental, decode):
             for letters in (b'a', b'\xff'):
                 if call is incremental or letters == b'a':
                     name = getattr(call, '__name__', call)

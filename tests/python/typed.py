@@ -4,6 +4,7 @@ import mmap
 from typing import List, Tuple
 
 import encoding_text
+import encoding_text.codec
 
 text, replaced = encoding_text.repair(b'')
 count: int = replaced
@@ -13,8 +14,15 @@ length: int = encoding_text.valid_up_to(b'')
 found: List[Tuple[int, int]] = list(encoding_text.malformed(b''))
 repair = encoding_text.IncrementalRepair()
 part: bytes = repair.decode(b'', final=True)
+part, found = repair.report(b'', final=True)
 repair.setstate(repair.getstate())
 count += repair.replaced
+
+
+codecs.register(encoding_text.codec.search)
+decoder = encoding_text.codec.IncrementalDecoder('replace')
+words: str = decoder.decode(memoryview(b''), final=True) + decoder.encoding
+decoder.setstate(decoder.getstate())
 
 
 def mapped(file: mmap.mmap) -> bool:
