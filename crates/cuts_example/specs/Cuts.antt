@@ -3,6 +3,10 @@ use Rattle.std.specs.Prelude.{◌≡◌, ℕ, ◌+◌, ◌<◌, List, [], ◌∷
 use Rattle.encoding_runs.specs.Parts.{Part, ArePartsOf}
 use Rattle.encoding_runs.specs.MalformedSequences.{malformed_indices}
 use Rattle.encoding_runs.specs.Repairs.{IsLossyDecodeWith}
+use Rattle.encoding_runs.specs.Calls.{Call, IsChain}
+use Rattle.encoding_runs.specs.Searches.{IsBlockSearch, StartInTurn, IsFinished}
+use Rattle.encoding_runs.specs.declared.search.SearchedBlock.{SearchedBlock}
+use Rattle.encoding_runs.specs.declared.search.StreamMalformation.{StreamMalformation}
 use Rattle.cuts_example.specs.declared.RepairedPiece.{RepairedPiece}
 
 -- the last of the bytes is ASCII
@@ -30,3 +34,7 @@ AreMalformedSequencesOf bs found = (parts : List Part) × ArePartsOf bs parts ×
 -- the same offsets and lengths with n bytes before them
 abbrev pub following : ℕ → List (ℕ × ℕ) → List (ℕ × ℕ)
 following n found = map (λ part. (n + part.0, part.1)) found
+
+-- calls of `search_block` over all of the bytes, in any blocks and into any arrays; the last one is finished
+abbrev pub SearchAll : List ℕ → List (Call (ℕ × ℕ) SearchedBlock StreamMalformation) → Type 0
+SearchAll bs calls = StartInTurn [] 0 calls × IsChain IsBlockSearch [] bs calls × IsFinished calls

@@ -2,13 +2,17 @@
 //! any number of machines. Joined, their texts are what one repair of all the bytes writes.
 #![tactic(auto)]
 
-ghost use Rattle.std.specs.Prelude.{◌≡◌, ℕ, ◌+◌, ◌-◌, ◌<◌, ◌≤◌, ◌^◌, min, List, ◌++◌, length, take, map, sum_by, slice_index, string_bytes, IfOk};
+ghost use Rattle.std.specs.Prelude.{◌≡◌, ℕ, ◌+◌, ◌-◌, ◌<◌, ◌≤◌, ◌^◌, min, List, [], ◌++◌, length, take, map, sum_by, slice_index, string_bytes, IfOk};
 ghost use Rattle.std.specs.List.{flat_map, AllByRecursion, AllZip};
 ghost use Rattle.std.specs.Str.Lossy.{utf8_lossy};
 ghost use Rattle.encoding_runs.specs.Repairs.{IsLossyDecodeOf, IsLossyDecodeWith};
-ghost use Rattle.cuts_example.specs.Cuts.{EndsWithAscii, MayBeCutAfter, AreCut, IsRepairOf, AreMalformedSequencesOf, following};
+ghost use Rattle.cuts_example.specs.Cuts.{EndsWithAscii, MayBeCutAfter, AreCut, IsRepairOf, AreMalformedSequencesOf, following, SearchAll};
+ghost use Rattle.encoding_runs.specs.Calls.{Call, IsChain, output_of};
+ghost use Rattle.encoding_runs.specs.Searches.{IsBlockSearch, StartInTurn, FindTheMalformed};
+ghost use Rattle.encoding_runs.specs.declared.search.SearchedBlock.{SearchedBlock};
+ghost use Rattle.encoding_runs.specs.declared.search.StreamMalformation.{StreamMalformation};
 
-use encoding_runs::laws::{law_cuts, law_next_malformed, law_parts};
+use encoding_runs::laws::{law_block_search, law_cuts, law_next_malformed, law_parts};
 use encoding_runs::malformed::{MalformedSequence, next_malformed};
 use encoding_runs::repair::{Watch, repair_slice};
 use std::alloc::{AllocError, Global};
@@ -44,6 +48,22 @@ pub fn law_lines()
         → utf8_lossy (flat_map (λ line. line) lines) ≡ flat_map utf8_lossy lines }
 {
     law_cuts();
+}
+
+/// A search of a stream by blocks finds the same, with the same kinds, whatever the cuts and the arrays: the malformed
+/// sequences that `malformed_indices` returns. Before the end it finds the first of them.
+pub fn law_searches()
+    ensures same { (bs : List ℕ)
+        (calls others : List (Call (ℕ × ℕ) SearchedBlock StreamMalformation))
+        → SearchAll bs calls → SearchAll bs others → output_of calls ≡ output_of others }
+    ensures indices { (bs : List ℕ) (calls : List (Call (ℕ × ℕ) SearchedBlock StreamMalformation))
+        → SearchAll bs calls
+        → AreMalformedSequencesOf bs (map (λ one. (one.offset, one.length)) (output_of calls)) }
+    ensures so_far { (bs : List ℕ) (calls : List (Call (ℕ × ℕ) SearchedBlock StreamMalformation))
+        → StartInTurn [] 0 calls → IsChain IsBlockSearch [] bs calls
+        → FindTheMalformed [] 0 bs calls }
+{
+    law_block_search();
 }
 
 /// Returns the offset and the length, in bytes, of each malformed sequence, in order: as many as a repair counts. An

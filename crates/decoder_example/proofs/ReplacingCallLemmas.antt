@@ -22,7 +22,8 @@ use Rattle.decoder_example.specs.declared.CoderResult.{CoderResult}
 use Rattle.decoder_example.specs.declared.CoderResult.TheVariants.{InputEmpty, OutputFull}
 use Rattle.decoder_example.specs.Marked.{State, Decoding, held, left, YieldsText}
 use Rattle.decoder_example.specs.ReplacingCalls.{Writes, Ends, IsReportingCall, IsReplacingCall}
-use Rattle.decoder_example.proofs.YieldedLemmas.{first_parts, decoded_text, written_for, is_report, YieldsText-append}
+use Rattle.encoding_runs.proofs.ReaderTextLemmas.{first_parts}
+use Rattle.decoder_example.proofs.YieldedLemmas.{decoded_text, written_for, is_report, YieldsText-append}
 
 lt_from : (n : ℕ) → true ≡ nat_lt 0 n → 0 < n
 lt_from n e = grind (arith, nat_tests)

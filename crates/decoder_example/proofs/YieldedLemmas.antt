@@ -1,9 +1,9 @@
 -- The parts that one call yields, and their text with U+FFFD for each malformed sequence. What calls in sequence yield.
-use Rattle.std.proofs.Common.{◌≡◌, ℕ, ◌+◌, Bool, true, false, ◌||◌, nat_lt, List, [], ◌∷◌, ◌++◌, drop, map, refl, sym, ap, subst, ◌∙◌, arith, append-nil, append_assoc, ◌≤◌, inl, length, take, encode_utf8_all, length-append, take-append-drop}
+use Rattle.std.proofs.Common.{◌≡◌, ℕ, ◌+◌, Bool, true, false, ◌||◌, nat_lt, List, [], ◌∷◌, ◌++◌, drop, map, refl, sym, ap, subst, ◌∙◌, arith, append-nil, ◌≤◌, inl, length, take, encode_utf8_all, length-append, take-append-drop}
 use Rattle.std.proofs.lemmas.Bool.Decides.{nat_tests}
 use Rattle.std.proofs.lemmas.Grind.{flat_map-append}
 use Rattle.std.specs.List.{flat_map, list_any}
-use Rattle.encoding_text.specs.Parts.{Part, Character, StartsWith, lossy_scalar, malformed_count, AreFinal, bytes_of, Yields}
+use Rattle.encoding_text.specs.Parts.{Part, Character, StartsWith, lossy_scalar, malformed_count, AreFinal, bytes_of}
 use Rattle.encoding_text.proofs.DecompositionLemmas.{StartsWith-append, malformed_count-append, malformed_count-characters}
 use Rattle.encoding_text.specs.Decoding.{AreDecoded, IsReported, DecodeStep}
 use Rattle.encoding_text.specs.declared.decoder.DecoderResult.{DecoderResult}
@@ -16,15 +16,6 @@ use Rattle.encoding_text.specs.OneResult.{HasOneResult}
 use Rattle.encoding_runs.specs.Calls.{Call, read_in_all, pending_after, some_last, YieldTheParts}
 use Rattle.encoding_runs.specs.MixedCalls.{Form, CallResult, AreYielded, IsInputEmpty}
 use Rattle.decoder_example.specs.ReplacingCalls.{Made, AreMade, TakesWhole, state_after, unread_after}
-
--- the parts that a call yields are the first ones for any following bytes, if any may follow
-pub first_parts : (p src : List ℕ) (last : Bool) (parts : List Part) (read : ℕ) (q more : List ℕ) → Yields p src last parts read q → (last ≡ true → more ≡ [])
-    → StartsWith (p ++ (src ++ more)) parts (q ++ (drop read src ++ more))
-first_parts p src false parts read q more yielded none =
-    subst (λ bs. StartsWith bs parts (q ++ (drop read src ++ more))) (append_assoc p src more)
-    (subst (StartsWith ((p ++ src) ++ more) parts) (append_assoc q (drop read src) more) (yielded.stable refl more))
-first_parts p src true parts read q more yielded none =
-    rw (none refl, append-nil, append-nil) yielded.first
 
 some_either : (a b : ℕ) → nat_lt 0 (a + b) ≡ (nat_lt 0 a || nat_lt 0 b)
 some_either a b = grind (arith, nat_tests)

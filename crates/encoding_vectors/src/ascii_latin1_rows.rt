@@ -1,5 +1,5 @@
-//! ASCII and Latin1: prefixes, copies, checks and conversions. And the checks for Latin1 of code units, of a text and
-//! of its bytes, at each length and with each number of others.
+//! ASCII and Latin1: prefixes, copies, checks and conversions. The checks for Latin1 also at each length, and with each
+//! number of other units.
 
 use crate::texts::{are_written, bytes_of, field, number_of};
 use encoding_text::ascii::{

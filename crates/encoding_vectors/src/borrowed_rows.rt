@@ -1,6 +1,6 @@
 //! Results that borrow if they can, allocations that fail, and how many requests for memory the calls make.
-//! `tests/caught` runs `counts_requests` with one request refused: the first one after those that it makes, and then
-//! the last of them.
+//! `tests/caught` runs `counts_requests` with one request refused: first the one after all that it makes, and then the
+//! last of these.
 
 use encoding_text::mem::{CowBytes, CowStr, decode_latin1, encode_latin1_lossy, is_str_latin1};
 use std::alloc::{AllocError, Global};

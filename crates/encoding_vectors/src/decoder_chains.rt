@@ -1,5 +1,5 @@
-//! Decode calls in a chain: with any cuts, into any destination, and in all forms. The decoder's vectors with every set
-//! of cuts and into every short destination, through calls of each form and of all in turn; and whole, marked last.
+//! Decode calls in a chain. The decoder's vectors go through calls of each form, and of all forms in turn: with every set of
+//! cuts, into every short destination, and whole, marked last.
 
 use crate::decoder_vectors::{Delivered, Vector, delivered, vectors};
 use crate::parts::{Parts, malformed};

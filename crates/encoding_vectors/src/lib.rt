@@ -1,5 +1,5 @@
 //! Tests only: each public call of `encoding_text` and `encoding_runs`; rows and published vectors; every offset at
-//! which a stream or an allocation may fail, and long input and long results. `docs/ROWS.md` has every row.
+//! which a stream or an allocation may fail, and long input and long results. `tests/ROWS.md` has every row.
 #![tactic(auto)]
 
 #[cfg(test)]
@@ -16,6 +16,8 @@ mod bounded_rows;
 mod constant_rows;
 #[cfg(test)]
 mod count_rows;
+#[cfg(test)]
+mod counted_rows;
 #[cfg(test)]
 mod decoder_chains;
 #[cfg(test)]

@@ -1,5 +1,5 @@
-//! Unpaired surrogates in UTF-16: how many code units are valid, and their repair in place. And surrogates after 0 to
-//! 70 letters, so that they are at each index of a block.
+//! Unpaired surrogates in UTF-16: how many code units come before the first, and the repair of a slice. And surrogates after
+//! 0 to 70 letters, so that they are at each index of a block.
 
 use crate::texts::{field, units_of};
 use encoding_text::mem::{ensure_utf16_validity, utf16_valid_up_to};

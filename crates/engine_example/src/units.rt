@@ -1,7 +1,7 @@
 //! The code units of a text in sequence: whether they are a text, their repair, their UTF-8 through a small buffer, and
 //! whether a character of them is right-to-left.
 
-ghost use Rattle.std.specs.Prelude.{◌≡◌, ◌↔◌, List, ℕ, Any, IfOk, IsTrue, encode_utf8_all, false};
+ghost use Rattle.std.specs.Prelude.{◌≡◌, ◌↔◌, List, ℕ, Any, IfOk, IsTrue, encode_utf8_all, false, string_bytes};
 ghost use Rattle.std.specs.Char.Escape.{encode_utf16};
 ghost use Rattle.std.specs.Char.Utf16.{utf16_lossy_chars, has_unpaired_surrogate};
 ghost use Rattle.std.specs.List.{flat_map};
@@ -14,8 +14,8 @@ use encoding_runs::laws::{
     law_bidi_agrees, law_partial_repeats, law_surrogate_repair, law_utf16_round_trip,
 };
 use encoding_text::mem::{
-    convert_utf16_to_utf8_partial, ensure_utf16_validity, is_str_bidi, is_utf16_bidi,
-    utf16_valid_up_to,
+    convert_utf16_to_utf8, convert_utf16_to_utf8_partial, ensure_utf16_validity, is_str_bidi,
+    is_utf16_bidi, utf16_valid_up_to,
 };
 use std::alloc::{AllocError, Global};
 
@@ -31,6 +31,19 @@ pub fn is_text(units: &[u16]) -> bool
 {
     law_surrogate_repair();
     utf16_valid_up_to(units) == units.len()
+}
+
+/// Returns the text of code units, with U+FFFD for each unpaired surrogate, as `String::from_utf16_lossy` does. An `Err`
+/// means that an allocation failed.
+pub fn text_of_units(alloc: Global, units: &[u16]) -> Result<String, AllocError>
+    ensures { IfOk result
+        (λ text. string_bytes text ≡ encode_utf8_all (utf16_lossy_chars units.now)) }
+{
+    let mut bytes = Vec::new(alloc);
+    bytes.resize(units.len().checked_mul(3).ok_or(AllocError)?, 0)?;
+    let written = convert_utf16_to_utf8(units, &mut bytes);
+    bytes.truncate(written);
+    Ok(unsafe { String::from_utf8_unchecked(bytes) })
 }
 
 /// Replaces each unpaired surrogate with U+FFFD. The code units are then the UTF-16 of the text that

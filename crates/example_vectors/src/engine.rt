@@ -1,9 +1,9 @@
-//! Blocks of UTF-16 from pieces of UTF-8, and back. And code units repaired in place, their UTF-8, at once and by
-//! turns, and whether they have right-to-left characters.
+//! Blocks of UTF-16 from pieces of UTF-8, and back. And the repair of code units, their UTF-8, at once and by turns, and
+//! whether they have right-to-left characters.
 
 use engine_example::turns::{text_by_turns, utf8_by_turns};
 use engine_example::units::{
-    has_right_to_left, is_repaired, is_text, text_has_right_to_left, utf8_of_units,
+    has_right_to_left, is_repaired, is_text, text_has_right_to_left, text_of_units, utf8_of_units,
 };
 use engine_example::{block_of_text, blocks_of_utf8, utf8_of_blocks};
 use std::test::Fail;
@@ -101,6 +101,8 @@ fn repairs_and_writes_each_row(rt: HostRuntime) -> Result<(), Fail> {
         own.extend_from_slice(units)?;
         let bytes = utf8_of_units(rt.alloc(), &own)?;
         assert!(rt; bytes.as_slice() == text.as_bytes(), "UTF-8 of {text}");
+        let whole = text_of_units(rt.alloc(), &own)?;
+        assert!(rt; whole.as_str() == *text, "the text {text} of its units");
         let bytes = utf8_by_turns(rt.alloc(), &own)?;
         assert!(rt; bytes.as_slice() == text.as_bytes(), "{text} by turns");
         let by_turns = text_by_turns(rt.alloc(), &own)?;

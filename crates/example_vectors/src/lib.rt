@@ -15,3 +15,5 @@ mod long;
 mod reader;
 #[cfg(test)]
 mod reads;
+#[cfg(test)]
+mod records;

@@ -4,11 +4,12 @@ ghost use Rattle.std.specs.Prelude.{◌<◌};
 
 use cuts_example::{malformed_indices, repair_apart, text_of_pieces};
 use decoder_example::{CoderResult, Decoder};
+use encoding_runs::reader::{Utf8Reader, Utf16Reader};
 use engine_example::turns::utf8_by_turns;
 use engine_example::units::{has_right_to_left, is_repaired, is_text, utf8_of_units};
 use engine_example::{block_of_text, blocks_of_utf8, utf8_of_blocks};
 use legacy_example::{windows_1252_to_utf8, windows_1252_to_utf16};
-use reader_example::{Utf8Reader, Utf16Reader, is_well_formed, read_text};
+use reader_example::{is_well_formed, read_text};
 use std::alloc::{AllocError, Global};
 use std::io::Read;
 use std::test::Fail;

@@ -1,16 +1,17 @@
 //! Readers of UTF-8 and of UTF-16, into destinations of each length and past errors.
 
-use reader_example::{Utf8Reader, Utf16Reader, is_well_formed, read_text};
+use encoding_runs::reader::{Utf8Reader, Utf16Reader};
+use reader_example::{is_well_formed, read_text};
 use std::io::{Error, ErrorKind, Read};
 use std::test::Fail;
 use std::{io, str};
 
 /// Returns its bytes, `step` per read, and fails at each second read.
 #[derive(Drop)]
-struct Faulty<'a> {
-    rest: &'a [u8],
-    step: usize,
-    fails: bool,
+pub(crate) struct Faulty<'a> {
+    pub(crate) rest: &'a [u8],
+    pub(crate) step: usize,
+    pub(crate) fails: bool,
 }
 
 impl Read for Faulty<'_> {

@@ -1,6 +1,7 @@
 //! How often readers of text read the reader inside, and what they make of its errors.
 
-use reader_example::{Utf8Reader, Utf16Reader, is_well_formed, read_text};
+use encoding_runs::reader::{Utf8Reader, Utf16Reader};
+use reader_example::{is_well_formed, read_text};
 use std::alloc::Global;
 use std::io;
 use std::io::{Error, ErrorKind, Read};

@@ -1,3 +1,1 @@
-pub mod ReaderPieceLemmas
-pub mod ReaderTextLemmas
-pub mod ReaderBlockLemmas
+pub mod WellFormedLemmas

@@ -1,20 +1,15 @@
-//! Readers that decode: over any reader of bytes one of UTF-8, and one of UTF-16. Both return the repaired text of the
-//! inner reader's bytes: each malformed sequence becomes U+FFFD. Encoding Standard, UTF-8 decode without BOM.
+//! All bytes of a reader as a text, in which each malformed sequence is U+FFFD. And whether they are well-formed UTF-8.
 #![tactic(auto)]
 
-mod buffer;
-mod utf16_reader;
-mod utf8_reader;
 mod well_formed;
 
 ghost use Rattle.std.specs.Prelude.{◌≡◌, IfOk, IfSome, string_bytes};
 ghost use Rattle.std.specs.Str.Lossy.{utf8_lossy};
 
+use encoding_runs::reader::Utf8Reader;
 use std::alloc::Global;
 use std::io;
 use std::io::Read;
-pub use utf8_reader::Utf8Reader;
-pub use utf16_reader::Utf16Reader;
 pub use well_formed::is_well_formed;
 
 /// Reads everything from a reader as text. Fails with the reader's error, or if an allocation fails.

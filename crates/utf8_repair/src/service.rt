@@ -2,7 +2,7 @@
 ghost use Rattle.std.specs.Prelude.{◌≡◌, ℕ, ◌<◌, ◌≤◌, ◌↔◌, Bool, false, List, length, IsTrue, OnOk, OnErr};
 ghost use Rattle.std.specs.Result.{IsOkAnd};
 ghost use Rattle.encoding_runs.specs.Repairs.{RepairsAll, RepairsProperPrefix, RepairsFinal};
-ghost use Rattle.utf8_repair.specs.Service.{RepairsPrefix, WritesPrefixOf, line_of};
+ghost use Rattle.utf8_repair.specs.Service.{IsServed, RepairsPrefix, WritesPrefixOf, line_of};
 
 use encoding_runs::repair::{RepairFault, Repaired, Sink, Source, Watch, repair};
 use std::io::{self, Read, Write};
@@ -49,21 +49,11 @@ fn status_of(outcome: Result<Repaired, RepairFault>) -> u8
 /// failed before, the status is 3 if and only if the source fails, and 4 if and only if the sink fails.
 fn repair_source<R: Source, W: Sink>(source: &mut R, sink: &mut W) -> u8
     ensures status { (result ≤ 5) × (result ≡ 2 → ⊥) }
-    ensures unchanged { result ≡ 0 → (bytes : List ℕ) × RepairsAll bytes (R.remaining source.old)
-        (R.remaining source.new)
-        (W.contents sink.old) (W.contents sink.new) 0 }
-    ensures replaced { result ≡ 1 → (bytes : List ℕ) × (n : ℕ) × (0 < n)
-        × RepairsAll bytes (R.remaining source.old) (R.remaining source.new)
-        (W.contents sink.old) (W.contents sink.new) n }
-    ensures read_fault { result ≡ 3 → (bytes : List ℕ)
-        × RepairsFinal bytes (R.remaining source.old) (R.remaining source.new)
+    ensures served { IsServed result (R.remaining source.old) (R.remaining source.new)
         (W.contents sink.old) (W.contents sink.new) }
     ensures write_fault { result ≡ 4 → R.has_ended source.old ≡ false
         → (bytes : List ℕ) × (ended : Bool)
         × RepairsProperPrefix bytes ended (R.remaining source.old) (R.remaining source.new)
-        (W.contents sink.old) (W.contents sink.new) }
-    ensures limit { result ≡ 5 → (bytes : List ℕ) × (length bytes ≡ u64.MAX)
-        × RepairsFinal bytes (R.remaining source.old) (R.remaining source.new)
         (W.contents sink.old) (W.contents sink.new) }
     ensures prefix { R.has_ended source.old ≡ false → (bytes : List ℕ) × (ended : Bool)
         × RepairsPrefix bytes ended (R.remaining source.old) (R.remaining source.new)
@@ -82,17 +72,7 @@ fn repair_source<R: Source, W: Sink>(source: &mut R, sink: &mut W) -> u8
 /// Writes the repaired text of the reader, up to its end or a failure, and returns the status.
 fn repair_stream<R: Read, W: Write>(reader: &mut R, writer: &mut W) -> u8
     ensures status { (result ≤ 5) × (result ≡ 2 → ⊥) }
-    ensures unchanged { result ≡ 0 → (bytes : List ℕ) × RepairsAll bytes (R.remaining reader.old)
-        (R.remaining reader.new)
-        (W.contents writer.old) (W.contents writer.new) 0 }
-    ensures replaced { result ≡ 1 → (bytes : List ℕ) × (n : ℕ) × (0 < n)
-        × RepairsAll bytes (R.remaining reader.old) (R.remaining reader.new)
-        (W.contents writer.old) (W.contents writer.new) n }
-    ensures read_fault { result ≡ 3 → (bytes : List ℕ)
-        × RepairsFinal bytes (R.remaining reader.old) (R.remaining reader.new)
-        (W.contents writer.old) (W.contents writer.new) }
-    ensures limit { result ≡ 5 → (bytes : List ℕ) × (length bytes ≡ u64.MAX)
-        × RepairsFinal bytes (R.remaining reader.old) (R.remaining reader.new)
+    ensures served { IsServed result (R.remaining reader.old) (R.remaining reader.new)
         (W.contents writer.old) (W.contents writer.new) }
     ensures prefix { (bytes : List ℕ) × (ended : Bool)
         × RepairsPrefix bytes ended (R.remaining reader.old) (R.remaining reader.new)
@@ -117,20 +97,10 @@ fn status_after(status: u8, flushed: io::Result<()>) -> u8
 /// Writes the repaired text of the reader, flushes the writer with any status, and returns the status.
 fn repair_and_flush<R: Read, W: Write>(reader: &mut R, writer: &mut W) -> u8
     ensures status { (result ≤ 5) × (result ≡ 2 → ⊥) }
-    ensures unchanged { result ≡ 0 → (bytes : List ℕ) × RepairsAll bytes (R.remaining reader.old)
-        (R.remaining reader.new)
-        (W.contents writer.old) (W.contents writer.new) 0 }
-    ensures replaced { result ≡ 1 → (bytes : List ℕ) × (n : ℕ) × (0 < n)
-        × RepairsAll bytes (R.remaining reader.old) (R.remaining reader.new)
-        (W.contents writer.old) (W.contents writer.new) n }
-    ensures read_fault { result ≡ 3 → (bytes : List ℕ)
-        × RepairsFinal bytes (R.remaining reader.old) (R.remaining reader.new)
+    ensures served { IsServed result (R.remaining reader.old) (R.remaining reader.new)
         (W.contents writer.old) (W.contents writer.new) }
     ensures write_fault { result ≡ 4 → (bytes : List ℕ) × (ended : Bool)
         × RepairsPrefix bytes ended (R.remaining reader.old) (R.remaining reader.new)
-        (W.contents writer.old) (W.contents writer.new) }
-    ensures limit { result ≡ 5 → (bytes : List ℕ) × (length bytes ≡ u64.MAX)
-        × RepairsFinal bytes (R.remaining reader.old) (R.remaining reader.new)
         (W.contents writer.old) (W.contents writer.new) }
 {
     let status = repair_stream(reader, writer);

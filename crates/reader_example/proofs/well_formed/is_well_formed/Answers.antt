@@ -2,7 +2,7 @@ use Rattle.std.proofs.Common.{◌==◌, refl, ap, arith}
 use Rattle.std.proofs.lemmas.Bool.{eqb-true}
 use Rattle.std.proofs.lemmas.Bool.Decides.{nat_tests}
 use Rattle.encoding_text.proofs.PrefixesLemmas.{WritesPrefix-length}
-use Rattle.reader_example.proofs.ReaderBlockLemmas.{none_yet, next, some_malformed, all_whole}
+use Rattle.reader_example.proofs.WellFormedLemmas.{none_yet, next, some_malformed, all_whole}
 use Rattle.reader_example.proofs.well_formed.is_well_formed.Goals as goal
 
 pub loop-init : goal.loop-init

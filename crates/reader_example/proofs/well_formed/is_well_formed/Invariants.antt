@@ -1,5 +1,5 @@
 use Rattle.std.proofs.Common.{◌≡◌, length}
-use Rattle.reader_example.proofs.ReaderBlockLemmas.{NoneMalformed}
+use Rattle.reader_example.proofs.WellFormedLemmas.{NoneMalformed}
 use Rattle.reader_example.proofs.well_formed.is_well_formed.Given as goal
 
 abbrev pub invariant-loop : goal.invariant-loop

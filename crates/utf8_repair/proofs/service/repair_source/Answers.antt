@@ -1,12 +1,22 @@
-use Rattle.std.proofs.Common.{◌<◌}
+use Rattle.std.proofs.Common.{◌≡◌, ◌<◌, subst}
+use Rattle.encoding_runs.specs.Repairs.{RepairsAll}
 use Rattle.utf8_repair.proofs.ServiceLemmas.{both, prefix_written}
 use Rattle.utf8_repair.proofs.service.repair_source.Goals as goal
 
-pub returns-clause-replaced : goal.returns-clause-replaced
-returns-clause-replaced g c = λ is.
-    let (repaired, some, (bytes, read, less, all, ended)) =
-    both (λ n. 0 < n) _ c.repair-outcome.result c.repair-outcome.ensures.ok (c.status_of.ensures.replaced is) in
-    (bytes, repaired.replaced, some, all)
+pub returns-clause-served : goal.returns-clause-served
+returns-clause-served g c =
+    let e = c.repair-outcome.ensures in
+    let status = c.status_of.ensures in
+    record {
+      unchanged = λ is.
+          let (repaired, none, (bytes, read, less, all, ended)) = both (λ n. n ≡ 0) _ c.repair-outcome.result e.ok (status.unchanged is) in
+          (bytes, subst (RepairsAll bytes _ _ _ _) none all);
+      replaced = λ is.
+          let (repaired, some, (bytes, read, less, all, ended)) = both (λ n. 0 < n) _ c.repair-outcome.result e.ok (status.replaced is) in
+          (bytes, repaired.replaced, some, all);
+      read_fault = λ is. let (bytes, less, final_text) = e.read_fault (status.read_fault.0 is) in (bytes, final_text);
+      limit = λ is. e.limit (status.limit.0 is);
+    }
 
 pub returns-clause-prefix : goal.returns-clause-prefix
 returns-clause-prefix g c = λ before.

@@ -2,25 +2,15 @@ use Rattle.std.proofs.Common.{rules, ap, sym}
 use Rattle.utf8_repair.proofs.ServiceLemmas.{prefix_of}
 use Rattle.utf8_repair.proofs.service.repair_stream.Goals as goal
 
-pub returns-clause-unchanged : goal.returns-clause-unchanged
-returns-clause-unchanged g c = λ is.
-    let run = c.repair_source.ensures.unchanged is in
-    search (rules, run)
-
-pub returns-clause-replaced : goal.returns-clause-replaced
-returns-clause-replaced g c = λ is.
-    let run = c.repair_source.ensures.replaced is in
-    search (rules, run)
-
-pub returns-clause-read_fault : goal.returns-clause-read_fault
-returns-clause-read_fault g c = λ is.
-    let run = c.repair_source.ensures.read_fault is in
-    search (rules, run)
-
-pub returns-clause-limit : goal.returns-clause-limit
-returns-clause-limit g c = λ is.
-    let run = c.repair_source.ensures.limit is in
-    search (rules, run)
+pub returns-clause-served : goal.returns-clause-served
+returns-clause-served g c =
+    let run = c.repair_source.ensures.served in
+    record {
+      unchanged = λ is. let all = run.unchanged is in search (rules, all);
+      replaced = λ is. let all = run.replaced is in search (rules, all);
+      read_fault = λ is. let final_text = run.read_fault is in search (rules, final_text);
+      limit = λ is. let final_text = run.limit is in search (rules, final_text);
+    }
 
 pub returns-clause-prefix : goal.returns-clause-prefix
 returns-clause-prefix g c =
