@@ -15,6 +15,10 @@ need() { # a command
 # shellcheck disable=SC2034 # the scripts use them
 machines=(x86_64 aarch64)
 
+# The programs of a release.
+# shellcheck disable=SC2034 # the scripts use them
+programs=(utf8_repair utf8_check)
+
 # Sets what depends on the machine: what GNU, Debian and readers call it, how the names of its tools begin, its compiler, and
 # the package of its C library. Then the folder of its build, and that of the archive that needs nothing of a system.
 # shellcheck disable=SC2034 # the scripts use them
@@ -31,10 +35,10 @@ select_machine() { # the machine
     esac
 }
 
-# Installs into an empty folder what `make install` does, with the program that $work has. Debug information goes.
+# Installs into an empty folder what `make install` does, with the programs that $work has. Debug information goes.
 put() { # the folder, PREFIX, LIBDIR, RELOCATABLE
     DESTDIR=$1 PREFIX=$2 LIBDIR=$3 RELOCATABLE=$4 BUILD=${built:?} INCLUDEDIR=${2%/}/include c/install install > /dev/null
-    install -m 755 "${work:?}/utf8_repair" "$1${2%/}/bin/utf8_repair"
+    install -m 755 "${programs[@]/#/${work:?}/}" "$1${2%/}/bin"
     "${tools?}strip" --strip-unneeded -R .comment "$1$3/${SHARED:?}"
     put_archive build "$1$3/libencoding_text.a"
 }

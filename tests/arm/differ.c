@@ -92,6 +92,8 @@ static size_t room(size_t length, size_t factor)
 #define LENGTH(name, source, element, factor) CONVERT(name, source, element, factor, add(got))
 #define PREFIX(name, source, element) CONVERT(name, source, element, 1, (add(got.length), add(got.other)))
 #define PROGRESS(name, source, element, factor) CONVERT(name, source, element, factor, (add(got.read), add(got.written)))
+#define COUNTED(name, source, element, factor) \
+    CONVERT(name, source, element, factor, (add(got.read), add(got.written), add(got.replaced)))
 
 static void scan_bytes(void)
 {
@@ -175,8 +177,10 @@ static void convert_units(void)
     LENGTH(mem_copy_basic_latin_to_ascii, any_units, uint8_t, 1);
     LENGTH(mem_convert_utf16_to_latin1_lossy, any_units, uint8_t, 1);
     PROGRESS(mem_convert_utf16_to_utf8_partial, any_units, uint8_t, 3);
+    COUNTED(mem_convert_utf16_to_utf8_partial_with_count, any_units, uint8_t, 3);
     LENGTH(mem_convert_utf16_to_utf8, any_units, uint8_t, 3);
     PROGRESS(mem_convert_utf16_to_str_partial, any_units, uint8_t, 3);
+    COUNTED(mem_convert_utf16_to_str_partial_with_count, any_units, uint8_t, 3);
     LENGTH(mem_convert_utf16_to_str, any_units, uint8_t, 3);
     PROGRESS(convert_utf16_to_utf8_partial_inner, any_units, uint8_t, 3);
     PROGRESS(convert_utf16_to_utf8_partial_tail, any_units, uint8_t, 3);
@@ -222,7 +226,44 @@ static size_t stream_room(size_t taken, size_t calls)
         } \
     } while (0)
 
-#define ENCODE(name, source) \
+/* The bytes of code units in one of the byte orders, in half of the cases without the last byte. */
+static bytes utf16_bytes(bool big_endian)
+{
+    units src = any_units();
+    bytes result = {(const uint8_t *)src.start, 2 * src.length};
+
+    for (size_t i = 0; big_endian && i < src.length; i++) {
+        src.start[i] = (uint16_t)(src.start[i] << 8 | src.start[i] >> 8);
+    }
+    result.length -= src.length > 0 ? below(2) : 0;
+    return result;
+}
+
+#define DECODE_UTF16(name, element) \
+    do { \
+        begin(#name); \
+        encoding_text_utf16_decoder decoder; \
+        encoding_text_utf16_decoder_new(&decoder, below(2) != 0); \
+        bytes src = below(3) != 0 ? utf16_bytes(decoder.big_endian != 0) : any_bytes(); \
+        size_t at = 0, calls = 0; \
+        bool last, ended = false; \
+        for (; !ended && calls < CALLS; calls++) { \
+            size_t taken = take(src.length - at, &last), length = stream_room(taken, calls); \
+            element *dst = destination(length, sizeof *dst); \
+            encoding_text_decoder_result got = encoding_text_##name(&decoder, src.start + at, taken, dst, length, last); \
+            add(got.read); \
+            add(got.written); \
+            add(got.result); \
+            add(got.malformed_length); \
+            add(got.read_after); \
+            add_bytes(dst, length * sizeof *dst); \
+            add_bytes(&decoder, sizeof decoder); \
+            at += got.read; \
+            ended = last && got.result == ENCODING_TEXT_INPUT_EMPTY; \
+        } \
+    } while (0)
+
+#define ENCODE_TO(name, source, result_type, more) \
     do { \
         begin(#name); \
         encoding_text_utf8_encoder encoder; \
@@ -233,16 +274,20 @@ static size_t stream_room(size_t taken, size_t calls)
         for (; !ended && calls < CALLS; calls++) { \
             size_t taken = take(src.length - at, &last), length = stream_room(taken, calls); \
             uint8_t *dst = destination(length, 1); \
-            encoding_text_encode_result got = encoding_text_##name(&encoder, src.start + at, taken, dst, length, last); \
+            result_type got = encoding_text_##name(&encoder, src.start + at, taken, dst, length, last); \
             add(got.read); \
             add(got.written); \
             add(got.result); \
+            more; \
             add_bytes(dst, length); \
             add(encoder.surrogate); \
             at += got.read; \
             ended = last && got.result == ENCODING_TEXT_INPUT_EMPTY; \
         } \
     } while (0)
+
+#define ENCODE(name, source) ENCODE_TO(name, source, encoding_text_encode_result, (void)0)
+#define ENCODE_COUNTED(name, source) ENCODE_TO(name, source, encoding_text_coder_result, add(got.replaced))
 
 static void borrow(void)
 {
@@ -290,6 +335,35 @@ static void repair_blocks(void)
     }
 }
 
+static void search_blocks(void)
+{
+    encoding_text_malformed_search search;
+    encoding_text_stream_malformation found[8];
+    bytes src = any_bytes();
+    size_t at = 0, calls = 0;
+    bool last, ended = false;
+
+    begin("search_block");
+    encoding_text_malformed_search_new(&search, below(100000));
+    for (; !ended && calls < CALLS; calls++) {
+        size_t taken = take(src.length - at, &last), length = 1 + below(8);
+        encoding_text_search_block_result got =
+            encoding_text_search_block(&search, src.start + at, taken, found, length, last);
+        add(got.read);
+        add(got.found);
+        add(got.finished);
+        for (size_t i = 0; i < got.found; i++) {
+            add(found[i].offset);
+            add(found[i].length);
+            add(found[i].kind);
+        }
+        add(search.start);
+        add_bytes(search.pending, search.count);
+        at += got.read;
+        ended = last && got.finished;
+    }
+}
+
 /* The states before and after a call on a few bytes, and what each one asks for. */
 static void lengths(void)
 {
@@ -318,15 +392,103 @@ static void lengths(void)
     add(encoding_text_utf8_encoder_max_buffer_length_from_utf8_without_replacement(&encoder, n));
 }
 
+#define DECODE_MARKED(name, element, result_type, more) \
+    do { \
+        begin(#name); \
+        encoding_text_decoder decoder; \
+        uint8_t encoding = (uint8_t)below(3), bom = (uint8_t)below(3); \
+        encoding_text_decoder_new(&decoder, encoding, bom); \
+        bytes src = below(2) != 0 ? utf16_bytes(below(2) != 0) : any_bytes(); \
+        size_t at = 0, calls = 0; \
+        bool last, ended = false; \
+        for (; !ended && calls < CALLS; calls++) { \
+            size_t taken = take(src.length - at, &last), length = stream_room(taken, calls); \
+            element *dst = destination(length, sizeof *dst); \
+            result_type got = encoding_text_##name(&decoder, src.start + at, taken, dst, length, last); \
+            add(got.read); \
+            add(got.written); \
+            add(got.result); \
+            more; \
+            add_bytes(dst, length * sizeof *dst); \
+            add_bytes(decoder.pending, decoder.count); \
+            add(decoder.encoding); \
+            add(decoder.bom); \
+            at += got.read; \
+            ended = last && got.result == ENCODING_TEXT_INPUT_EMPTY; \
+        } \
+    } while (0)
+#define REPLACE_MARKED(name, element) DECODE_MARKED(name, element, encoding_text_coder_result, add(got.replaced))
+#define REPORT_MARKED(name, element) \
+    DECODE_MARKED(name, element, encoding_text_decoder_result, (add(got.malformed_length), add(got.read_after)))
+
+static void marked_lengths(void)
+{
+    encoding_text_decoder decoder;
+    bytes src = any_bytes();
+    size_t n = below(100000);
+    uint8_t dst[64];
+    encoding_text_bom bom = encoding_text_for_bom(src.start, src.length);
+
+    begin("for_bom");
+    add(bom.length);
+    add(bom.encoding);
+    /* drawn one after the other, since compilers differ in the order of arguments */
+    uint8_t encoding = (uint8_t)below(3), marks = (uint8_t)below(3);
+    encoding_text_decoder_new(&decoder, encoding, marks);
+    encoding_text_decoder_decode_to_utf8(&decoder, src.start, src.length < 7 ? src.length : 7, dst, sizeof dst, false);
+    begin("decoder_encoding");
+    add(encoding_text_decoder_encoding(&decoder));
+    begin("decoder_in_neutral_state");
+    add(encoding_text_decoder_in_neutral_state(&decoder));
+    begin("decoder_max_utf16_buffer_length");
+    add(encoding_text_decoder_max_utf16_buffer_length(&decoder, n));
+    begin("decoder_max_utf8_buffer_length");
+    add(encoding_text_decoder_max_utf8_buffer_length(&decoder, n));
+    begin("decoder_max_utf8_buffer_length_without_replacement");
+    add(encoding_text_decoder_max_utf8_buffer_length_without_replacement(&decoder, n));
+    begin("decoder_latin1_byte_compatible_up_to");
+    add(encoding_text_decoder_latin1_byte_compatible_up_to(&decoder, src.start, src.length));
+}
+
+static void utf16_lengths(void)
+{
+    encoding_text_utf16_decoder decoder;
+    bytes src = any_bytes();
+    size_t n = below(100000);
+    uint8_t dst[64];
+
+    encoding_text_utf16_decoder_new(&decoder, below(2) != 0);
+    encoding_text_utf16_decoder_decode_to_utf8(&decoder, src.start, src.length < 7 ? src.length : 7, dst, sizeof dst, false);
+    begin("utf16_decoder_in_neutral_state");
+    add(encoding_text_utf16_decoder_in_neutral_state(&decoder));
+    begin("utf16_decoder_max_utf16_buffer_length");
+    add(encoding_text_utf16_decoder_max_utf16_buffer_length(&decoder, n));
+    begin("utf16_decoder_max_utf8_buffer_length");
+    add(encoding_text_utf16_decoder_max_utf8_buffer_length(&decoder, n));
+    begin("utf16_decoder_max_utf8_buffer_length_without_replacement");
+    add(encoding_text_utf16_decoder_max_utf8_buffer_length_without_replacement(&decoder, n));
+}
+
 static void streams(void)
 {
     lengths();
+    marked_lengths();
+    REPLACE_MARKED(decoder_decode_to_utf16, uint16_t);
+    REPLACE_MARKED(decoder_decode_to_utf8, uint8_t);
+    REPORT_MARKED(decoder_decode_to_utf16_without_replacement, uint16_t);
+    REPORT_MARKED(decoder_decode_to_utf8_without_replacement, uint8_t);
+    utf16_lengths();
+    DECODE_UTF16(utf16_decoder_decode_to_utf16, uint16_t);
+    DECODE_UTF16(utf16_decoder_decode_to_utf8, uint8_t);
     DECODE(utf8_decoder_decode_to_utf16, uint16_t);
     DECODE(utf8_decoder_decode_to_utf8, uint8_t);
     ENCODE(utf8_encoder_encode_from_utf16, any_units);
+    ENCODE_COUNTED(utf8_encoder_encode_from_utf16_with_count, any_units);
     ENCODE(utf8_encoder_encode_from_utf8, sound_bytes);
+    ENCODE_COUNTED(utf8_encoder_encode_from_utf8_with_count, sound_bytes);
     borrow();
     repair_blocks();
+    search_blocks();
 }
 
 enum { TURNS = 40, REPORTS = 30 };

@@ -7,11 +7,10 @@ for release in '12-arm64 bookworm' '13-arm64 trixie'; do
     step "its machine, $on" prints 'aarch64\narm64\n' 'uname -m && dpkg --print-architecture'
     run_readme
     step "the Debian packages, $on" inside 'dpkg -i /packed/*_arm64.deb && ldconfig -p | grep "libencoding_text.so.0 "'
-    step "the program, $on" prints "${repaired:?}" 'status=0; printf $damaged | utf8_repair || status=$?; [ $status = 1 ]'
-    step "what it links, $on" prints 'statically linked\n' 'ldd /usr/bin/utf8_repair | sed "s/^\\t//"'
+    use_programs "$on" /usr/bin
     for kind in '' -static -static-pie; do
         step "repair.c $kind builds, $on" inside "cd /programs && gcc $kind -o c repair.c -lencoding_text"
-        step "repair.c $kind, $on" prints "$repaired\n" /programs/c
+        step "repair.c $kind, $on" prints "${repaired:?}\n" /programs/c
     done
     step "removal, $on" inside 'dpkg --purge libencoding-text-dev libencoding-text0 utf8-repair'
     step "it leaves no file, $on" leaves_nothing

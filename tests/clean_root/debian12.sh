@@ -7,12 +7,13 @@ step 'sums' inside 'cd /packed && sha256sum -c SHA256SUMS'
 
 run_readme
 step 'the Debian packages' inside 'dpkg -i /packed/*_amd64.deb && ldconfig -p | grep "libencoding_text.so.0 "'
-step 'pages in the packages' inside 'cd /usr/share/doc/libencoding-text-dev && test -s DEFINITIONS.md -a -s DIFFERENCES.md -a -s SECURITY.md &&
-    ! grep "](" *.md && man_page=$(zcat /usr/share/man/man1/utf8_repair.1.gz) && grep "It 127" <<< "$man_page"'
-step 'the program' prints "${repaired:?}" 'status=0; printf $damaged | utf8_repair || status=$?; [ $status = 1 ]'
-step 'what it links' prints 'statically linked\n' 'ldd /usr/bin/utf8_repair | sed "s/^\\t//"'
+step 'pages in the packages' inside 'cd /usr/share/doc/libencoding-text-dev && test -s DEFINITIONS.md -a -s COMPARED.md -a -s SECURITY.md &&
+    ! grep "](" *.md && for it in repair check; do
+        man_page=$(zcat /usr/share/man/man1/utf8_$it.1.gz) && grep "It 127" <<< "$man_page"
+    done'
+use_programs 'on Debian 12' /usr/bin
 step 'repair.c by pkg-config builds' inside 'cd /programs && gcc -o c repair.c $(pkg-config --cflags --libs encoding_text)'
-step 'repair.c by pkg-config' prints "$repaired\n" /programs/c
+step 'repair.c by pkg-config' prints "${repaired:?}\n" /programs/c
 step 'its version node' inside 'readelf -V /programs/c | grep ENCODING_TEXT_0.1'
 step 'decode.cc by pkg-config builds' inside 'cd /programs && g++ -o cc decode.cc $(pkg-config --cflags --libs encoding_text)'
 step 'decode.cc by pkg-config' prints '5004 code units, 1 for a malformed sequence\n' \
@@ -59,7 +60,7 @@ done
 step 'its pages' inside "$crate && test -s README.md -a -s COPYRIGHT -a -s MIT.txt -a -s Apache-2.0.txt && grep rust-version Cargo.toml"
 
 step 'the tarball' inside 'mkdir /srv/one && tar -C /srv/one -xf /packed/*-x86_64-*.tar.gz && mv /srv/one/* /srv/moved'
-step 'its program' prints "$repaired" 'status=0; printf $damaged | /srv/moved/bin/utf8_repair || status=$?; [ $status = 1 ]'
+use_programs 'of the tarball' /srv/moved/bin
 moved='export PKG_CONFIG_PATH=/srv/moved/lib/pkgconfig LD_LIBRARY_PATH=/srv/moved/lib; cd /programs'
 step 'repair.c over it builds' inside "$moved && gcc -o tar /srv/moved/share/doc/encoding_text/examples/repair.c \$(pkg-config --cflags --libs encoding_text) &&
     ldd tar | grep /srv/moved/lib/libencoding_text"

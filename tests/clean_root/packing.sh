@@ -107,15 +107,18 @@ rm -rf "$copy"
 is_clean() { # the package
     gives '' lintian --allow-root --display-info --pedantic "$1" && dpkg-deb -f "$1" Package Version
 }
-step 'the program in the package' dpkg-deb -x "$packed"/utf8-repair_*_amd64.deb "$work/packed"
-step 'its runs over pipes, devices and a terminal' tests/cli/program "$work/packed/usr/bin/utf8_repair"
-step 'its runs over lines' tests/cli/lines "$work/packed/usr/bin/utf8_repair"
+step 'the programs in the package' dpkg-deb -x "$packed"/utf8-repair_*_amd64.deb "$work/packed"
+step 'utf8_repair over pipes, devices and a terminal' tests/cli/program "$work/packed/usr/bin/utf8_repair"
+step 'utf8_repair over lines' tests/cli/lines "$work/packed/usr/bin/utf8_repair"
+step 'utf8_check over files, pipes, devices and a terminal' tests/cli/check "$work/packed/usr/bin/utf8_check"
 # Succeeds if the program ends with its status for a processor without SSE4.2, and one line of its own.
-lacks_a_feature() {
-    qemu-x86_64-static -cpu Conroe "$work/packed/usr/bin/utf8_repair" < /dev/null > "$work/out" 2> "$work/said"
+lacks_a_feature() { # the program
+    qemu-x86_64-static -cpu Conroe "$work/packed/usr/bin/$1" < /dev/null > "$work/out" 2> "$work/said"
     [ $? = 127 ] && gives '' cat "$work/out" && gives '1\n' grep -c '' "$work/said" && grep x86-64-v2 "$work/said"
 }
-step 'its run on a processor without SSE4.2' lacks_a_feature
+for program in utf8_repair utf8_check; do
+    step "$program on a processor without SSE4.2" lacks_a_feature $program
+done
 for package in "$packed"/*.deb; do
     step "lintian of $(basename "$package")" is_clean "$package"
 done

@@ -42,7 +42,9 @@ run_tarball_page() {
     step "it has no other block, on $on" gives '' block "$page" 'Compile a program' 2
     step "its archive for other systems, on $on" inside 'ls -l /srv/page/lib/none/libencoding_text.a'
     if inside 'command -v man' > /dev/null; then
-        step "its manual page, on $on" inside "cd /srv/page && $(sed -n 's/.*`\(man -l [^`]*\)`.*/\1/p' "$page") | tee page | grep x86-64-v2 && grep '^ *127' page"
+        while read -r command; do
+            step "its $command, on $on" inside "cd /srv/page && $command | tee page | grep x86-64-v2 && grep '^ *127' page"
+        done < <(grep -o 'man -l [^`]*' "$page")
     fi
 }
 
