@@ -1,6 +1,7 @@
-# Builds, checks and installs the libraries for C, their header, and the program utf8_repair.
+# Builds, checks and installs the libraries for C, their header, and the programs utf8_repair and utf8_check.
 #
-#   make                        Proves and builds build/libencoding_text.a, the shared library and build/utf8_repair.
+#   make                        Proves and builds build/libencoding_text.a, the shared library, build/utf8_repair and
+#                               build/utf8_check.
 #                               Each library holds a build for x86-64-v2 and one for x86-64-v3 (with AVX2), and selects
 #                               one at load time. The toolchain's output is in build/logs. Then builds the same for 64-bit
 #                               ARM in build/aarch64, with the tools aarch64-linux-gnu-gcc and so on, if they are there;
@@ -9,8 +10,8 @@
 #   make check                  Calls each function of each build from C and C++, also with sanitizers and under
 #                               valgrind. Runs the examples with what `make install` puts into an empty folder.
 #   make check-aarch64          Does the same for the build for ARM, with qemu-aarch64.
-#   make install PREFIX=/usr    Installs the last build: libraries, header, files for pkg-config and CMake, program,
-#                               manual page, terms. LIBDIR, INCLUDEDIR and DESTDIR change the folders. RELOCATABLE=1
+#   make install PREFIX=/usr    Installs the last build: libraries, header, files for pkg-config and CMake, programs,
+#                               manual pages, terms. LIBDIR, INCLUDEDIR and DESTDIR change the folders. RELOCATABLE=1
 #                               lets the file for pkg-config name folders relative to its own.
 #   make uninstall PREFIX=/usr  Removes all of it.
 #   make release                Builds for both architectures, and writes the packages of both to build/release. Needs what
@@ -41,16 +42,17 @@ ifneq ($(words $(CPU)) $(words $(filter $(CPUS),$(CPU))),1 1)
 $(error CPU=$(CPU) is none of these: $(CPUS))
 endif
 
-LIBRARIES = encoding_definitions encoding_kernels encoding_text encoding_runs encoding_c utf8_repair
-FOLDERS = $(foreach name,$(LIBRARIES),$(foreach part,src specs proofs,$(wildcard crates/$(name)/$(part))))
+PROGRAMS = utf8_repair utf8_check
+CRATES = encoding_definitions encoding_kernels encoding_text encoding_runs encoding_streams encoding_c $(PROGRAMS)
+FOLDERS = $(foreach name,$(CRATES),$(foreach part,src specs proofs,$(wildcard crates/$(name)/$(part))))
 SOURCES := $(shell find $(FOLDERS) -name '*.rt' -o -name '*.antt')
-BUILT = libencoding_text.a $(SHARED) utf8_repair
+BUILT = libencoding_text.a $(SHARED) $(PROGRAMS)
 
 # The long steps, in order. The first one proves all that the others depend on.
 ifeq ($(CPU),both)
-STEPS = x86-64-v2/library x86-64-v3/library x86-64-v2/program $(if $(has_cross),aarch64/library aarch64/program)
+STEPS = x86-64-v2/library x86-64-v3/library $(PROGRAMS:%=x86-64-v2/%) $(if $(has_cross),aarch64/library $(PROGRAMS:%=aarch64/%))
 else
-STEPS = $(CPU)/library $(CPU)/program
+STEPS = $(CPU)/library $(PROGRAMS:%=$(CPU)/%)
 endif
 progress = tools/progress '$(STEPS)'
 
@@ -95,7 +97,7 @@ build/libencoding_text.so: | build/$(SHARED)
 	ln -sf $(SHARED) $@
 
 # One job, since the functions for C are many and small: each process would read all that they depend on.
-library = cd crates/encoding_runs && rt lib && cd ../encoding_c && rt lib --jobs 1
+library = cd crates/encoding_runs && rt lib && cd ../encoding_streams && rt lib && cd ../encoding_c && rt lib --jobs 1
 FREESTANDING = -O2 -Wall -Wextra -fPIC -ffreestanding -fcf-protection=none -fno-asynchronous-unwind-tables -Ic/include
 PROGRAM_C = -std=c99 -D_POSIX_C_SOURCE=200809L -O2 -Wall -Wextra -fPIC
 
@@ -118,26 +120,30 @@ build/aarch64/libencoding_text.a: $(SOURCES) c/layout.c
 	$(need_rt)$(need_cross)
 	$(call archive,aarch64,5 to 11 min$(comma) 1 behind another,--target aarch64-unknown-linux-gnu,$(CROSS)gcc,$(CROSS)ar)
 
-# utf8_repair.o has all of the program except the C library, for other links.
-build/x86%/utf8_repair: $(SOURCES)
-	$(need_rt)$(need_binutils)
-	@mkdir -p $(@D)
-	@$(progress) x86$*/program '1 min' sh -c 'cd crates/utf8_repair && rt run --cpu=x86$* < /dev/null'
-	$(LD) -r -o $@.o crates/utf8_repair/out/utf8_repair.o $(calls_system)
-	cp crates/utf8_repair/out/utf8_repair $@
+# program(its name): proves and links it. NAME.o has all of the program except the C library, for other links.
+define program
+build/x86%/$(1): $(SOURCES)
+	$$(need_rt)$$(need_binutils)
+	@mkdir -p $$(@D)
+	@$$(progress) x86$$*/$(1) '1 min' sh -c 'cd crates/$(1) && rt run --cpu=x86$$* < /dev/null'
+	$$(LD) -r -o $$@.o crates/$(1)/out/$(1).o $$(calls_system)
+	cp crates/$(1)/out/$(1) $$@
 
-build/aarch64/utf8_repair: $(SOURCES) c/system.c c/object
-	$(need_rt)$(need_cross)
-	@mkdir -p $(@D)
-	@$(progress) aarch64/program '1 min' c/object aarch64-unknown-linux-gnu $(@D)/proved.o
-	$(CROSS)gcc $(PROGRAM_C) -c -o $(@D)/system.o c/system.c
-	$(CROSS)ld -r -o $@.o $(@D)/proved.o $(@D)/system.o
-	$(CROSS)gcc -static-pie -o $@ $@.o
+build/aarch64/$(1): $(SOURCES) c/system.c c/object
+	$$(need_rt)$$(need_cross)
+	@mkdir -p $$(@D)
+	@$$(progress) aarch64/$(1) '1 min' c/object $(1) aarch64-unknown-linux-gnu $$@.proved.o
+	$$(CROSS)gcc $$(PROGRAM_C) -c -o $$@.system.o c/system.c
+	$$(CROSS)ld -r -o $$@.o $$@.proved.o $$@.system.o
+	$$(CROSS)gcc -static-pie -o $$@ $$@.o
 
-# Pipes limit the program's speed before the processor does, so one build is enough.
-build/both/utf8_repair: build/x86-64-v2/utf8_repair
-	@mkdir -p $(@D)
-	cp $< $@
+# Pipes and disks limit the programs' speed before the processor does, so one build is enough.
+build/both/$(1): build/x86-64-v2/$(1)
+	@mkdir -p $$(@D)
+	cp $$< $$@
+
+endef
+$(foreach name,$(PROGRAMS),$(eval $(call program,$(name))))
 
 build/both/libencoding_text.a: build/x86-64-v2/libencoding_text.a build/x86-64-v3/libencoding_text.a build/names c/choose.c c/join
 	$(need_cc)$(need_binutils)
