@@ -17,7 +17,8 @@ use Rattle.std.proofs.lemmas.Str.{IsCharBoundary-at_seam, IsUtf8-append, IsUtf8-
 use Rattle.encoding_definitions.specs.Prefixes.{WritesPrefix}
 use Rattle.encoding_kernels.proofs.Utf8ToUtf16LoopLemmas.{Putting, putting_fits, putting_rest, puts_whole, zeros_text}
 use Rattle.encoding_kernels.proofs.CodeUnitLemmas.{ends_at, length-ends, length-units}
-use Rattle.encoding_kernels.proofs.CompressLemmas.{keep_pad, keep_take, length-keep-le, part_size}
+use Rattle.encoding_kernels.proofs.CompressLemmas.{keep_pad, keep_take, length-keep-le}
+use Rattle.encoding_kernels.proofs.MaskPartLemmas.{part_size}
 use Rattle.encoding_kernels.proofs.Utf8ToUtf16Lemmas.{units_from, units_of_characters}
 
 -- ---- the first of three bytes

@@ -18,7 +18,7 @@ use Rattle.encoding_definitions.proofs.Latin1Lemmas.{IsLatin1-rest}
 use Rattle.std.proofs.lemmas.Nat.{and_mask}
 use Rattle.std.specs.List.{range_with_len}
 use Rattle.encoding_kernels.specs.Scans.{HasLanes}
-use Rattle.encoding_kernels.proofs.CompressLemmas.{first_mask}
+use Rattle.encoding_kernels.proofs.MaskPartLemmas.{first_mask}
 use Rattle.encoding_kernels.proofs.VectorLemmas.{HasLanes-itself, HasLanes-splat, HasLanes-zip2, HasLanes_same, compared, top_compared, mask_of, bytes_of, bytes_lanes, wide, wide_l}
 use Rattle.encoding_kernels.proofs.MaskLemmas.{chosen_by, tests_of, tests_and}
 

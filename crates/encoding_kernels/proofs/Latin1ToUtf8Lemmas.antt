@@ -14,7 +14,7 @@ use mir.Syntax.{w8}
 use Rattle.encoding_kernels.specs.Scans.{HasLanes}
 use Rattle.encoding_kernels.specs.KeptBytes.{EncodesTo, kept_places}
 use Rattle.encoding_kernels.proofs.ScanLemmas.{Each-take}
-use Rattle.encoding_kernels.proofs.CompressLemmas.{low_half, first_mask, high_half}
+use Rattle.encoding_kernels.proofs.MaskPartLemmas.{low_half, first_mask, high_half}
 use Rattle.encoding_kernels.proofs.VectorLemmas.{HasLanes-itself, HasLanes-splat, HasLanes-zip2, HasLanes_same, compared, bytes_of, bytes_lanes}
 use Rattle.encoding_kernels.proofs.MaskLemmas.{chosen_by, tests_of}
 use Rattle.encoding_kernels.proofs.UniformLemmas.{ones-none, respell, spelled_short}

@@ -11,6 +11,7 @@ pub mod Latin1FromUtf8Lemmas
 pub mod Latin1ToUtf8Lemmas
 pub mod LengthLemmas
 pub mod MaskLemmas
+pub mod MaskPartLemmas
 pub mod MixedLemmas
 pub mod OverwriteLemmas
 pub mod PairsLemmas

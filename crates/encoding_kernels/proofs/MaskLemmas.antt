@@ -8,7 +8,7 @@ use Rattle.std.proofs.lemmas.Simd.{trailing_mask_l, Each1-get_or, get_or-zip2, E
 use lib.Count.{count_trailing_zeros}
 use mir.Syntax.{Width}
 use mir.Val.{bits, hbits}
-use Rattle.encoding_kernels.specs.Scans.{HasLanes, Marks, PassBetween}
+use Rattle.encoding_kernels.specs.Scans.{HasLanes, Marks}
 use Rattle.encoding_kernels.proofs.VectorLemmas.{HasLanes_load, HasLanes-zip2, HasLanes-splat, HasLanes-select, HasLanes_same, compared, top_compared, mask_of, mask_is, IsFirstSet, first_set, first_none, no_bit_from, HasLanes-itself, sixteen_lanes}
 use Rattle.std.proofs.lemmas.Nat.{le_or_l, le_or_r, and_le_l}
 use Rattle.std.proofs.lemmas.List.{get_or_past}
@@ -120,59 +120,6 @@ pub marks_below : (w : Width) (n at bound : ℕ) (xs : List ℕ) → at + n ≤ 
 marks_below w n at bound xs room few =
     marks_of (λ k. get_or xs k 0 < bound) at (tests_of w leb (HasLanes-splat n bound) (HasLanes_load at n xs room)) few
     (λ k l. (leb-false bound _, lt-leb bound _))
-
--- ---- the greatest lanes of four vectors
-abbrev greater : ℕ → ℕ → ℕ
-greater a b = cond (ltb a b) b a
-
-greater_below : (a b bound : ℕ) → (greater a b < bound) ↔ ((a < bound) × (b < bound))
-greater_below a b bound = (λ l. grind (arith, nat_tests), λ l. grind (arith, nat_tests))
-
-abbrev greater_lanes : Width → List ℕ → List ℕ → List ℕ
-greater_lanes w a b = sel_l (map (top (hbits w)) (zip2 (compared w ltb) a b)) b a
-
-HasLanes-greater : (w : Width) {n : ℕ} {a b : List ℕ} {f g : ℕ → ℕ} → HasLanes n a f → HasLanes n b g
-    → HasLanes n (greater_lanes w a b) (λ k. greater (f k) (g k))
-HasLanes-greater w p q = chosen_by (tests_of w ltb p q) q p
-
--- a range of four times n indices
-each_of_four : (P : ℕ → Type 0) (n at : ℕ) → ((k : ℕ) → k < n → P (at + k) × P (at + n + k) × P (at + 2 * n + k) × P (at + 3 * n + k))
-    → PassBetween P at (at + 4 * n)
-each_of_four P n at h j from to = elim (cases_lt j (at + 2 * n)) [
-  | inl l ↦ elim (cases_lt j (at + n)) [
-    | inl m ↦ subst P {x = at + (j - at)} {y = j} (omega arith) (h (j - at) (omega arith)).0
-    | inr m ↦ subst P {x = at + n + (j - (at + n))} {y = j} (omega arith) (h (j - (at + n)) (omega arith)).1
-  ]
-  | inr l ↦ elim (cases_lt j (at + 3 * n)) [
-    | inl m ↦ subst P {x = at + 2 * n + (j - (at + 2 * n))} {y = j} (omega arith) (h (j - (at + 2 * n)) (omega arith)).2
-    | inr m ↦ subst P {x = at + 3 * n + (j - (at + 3 * n))} {y = j} (omega arith) (h (j - (at + 3 * n)) (omega arith)).3
-  ]
-]
-
-module _ (w : Width) (n at bound : ℕ) (xs : List ℕ) (room : at + 4 * n ≤ length xs) (few : n ≤ 64) where
-  abbrev pub greatest : List ℕ
-  greatest = greater_lanes w (greater_lanes w (chunk at n xs) (chunk (at + n) n xs)) (greater_lanes w (chunk (at + 2 * n) n xs) (chunk (at + 3 * n) n xs))
-
-  greatest_tests : HasTests w n (zip2 (compared w leb) (replicate n bound) greatest) (λ k. leb bound
-      (greater (greater (get_or xs (at + k) 0) (get_or xs (at + n + k) 0)) (greater (get_or xs (at + 2 * n + k) 0) (get_or xs (at + 3 * n + k) 0))))
-  greatest_tests = tests_of w leb (HasLanes-splat n bound)
-      (HasLanes-greater w (HasLanes-greater w (HasLanes_load at n xs (omega arith)) (HasLanes_load (at + n) n xs (omega arith)))
-      (HasLanes-greater w (HasLanes_load (at + 2 * n) n xs (omega arith)) (HasLanes_load (at + 3 * n) n xs (omega arith))))
-
-  -- no greatest lane reaches the bound if and only if all are below it
-  pub four_below : (mask_of (hbits w) (zip2 (compared w leb) (replicate n bound) greatest) ≡ 0) ↔ PassBetween (λ k. get_or xs k 0 < bound) at (at + 4 * n)
-  four_below = (
-    λ none. each_of_four (λ k. get_or xs k 0 < bound) n at (λ k l.
-        let below = leb-false bound _ ((none_is_first greatest_tests few none).before k l) in
-        let both = (greater_below _ _ bound).0 below in
-        let first = (greater_below _ _ bound).0 both.0 in
-        let last = (greater_below _ _ bound).0 both.1 in
-        (first.0, first.1, last.0, last.1)),
-    λ h. no_bit_from (hbits w) greatest_tests.lanes few (λ k l. top_compared w _ ∙ lt-leb bound _ ((greater_below _ _ bound).1 (
-      (greater_below _ _ bound).1 (h (at + k) (omega arith) (omega arith), h (at + n + k) (omega arith) (omega arith)),
-      (greater_below _ _ bound).1 (h (at + 2 * n + k) (omega arith) (omega arith), h (at + 3 * n + k) (omega arith) (omega arith)),
-    ))),
-  )
 
 -- two tests in one
 pub and_both : (a b : Bool) → IsTrue (a && b) → IsTrue a × IsTrue b

@@ -15,7 +15,7 @@ use lib.Count.{count_trailing_zeros}
 use Rattle.std.specs.Simd.Lanes.{mask_l, pick_l, zip2, sel_l, top, Each1}
 use Rattle.encoding_kernels.specs.Scans.{HasLanes}
 use Rattle.encoding_kernels.specs.KeptBytes.{unit_places, length_classes, EncodesBy}
-use Rattle.encoding_kernels.proofs.CompressLemmas.{mask_append}
+use Rattle.encoding_kernels.proofs.MaskPartLemmas.{mask_append}
 use Rattle.encoding_kernels.proofs.VectorLemmas.{HasLanes-itself, HasLanes-numbers, HasLanes_same, HasLanes-splat, HasLanes-zip2, compared, firsts_are, mask_of, same_below, bytes_of_sixteen, sixteen_lanes, wide_sixteen, wide_sixteen_l}
 use Rattle.encoding_kernels.proofs.MaskLemmas.{HasTests, tests_of, chosen_by, none_passes, run_is_first, less_lanes, less_words}
 use Rattle.encoding_kernels.proofs.UniformLemmas.{mask_from, ones-none}

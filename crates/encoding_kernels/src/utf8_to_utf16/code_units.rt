@@ -205,7 +205,7 @@ fn compress(lanes: u16x8, mask: usize) -> u16x8
 }
 
 /// Returns the mask of sixteen lanes without the bits of the first `from` and of those from `to` on.
-#[tactic(auto, using(crate::proofs::CompressLemmas::mask_between))]
+#[tactic(auto, using(crate::proofs::MaskPartLemmas::mask_between))]
 #[inline(always)]
 pub(super) fn kept_between(mask: usize, from: usize, to: usize) -> usize
     requires { (mask < 2 ^ 16) × (from ≤ to) × (to ≤ 16) }

@@ -1,7 +1,7 @@
 use Rattle.std.proofs.Common.{◌≡◌, ◌^◌, ◌*◌, ◌/◌, ◌%◌, ◌-◌, ◌++◌, ◌∙◌, arith, bit_and, drop, false, refl, replicate, take}
 use Rattle.std.specs.Simd.Lanes.{mask_l}
 use Rattle.std.proofs.lemmas.Nat.{one_shl}
-use Rattle.encoding_kernels.proofs.CompressLemmas.{mask_between, part_size, sixteen_small}
+use Rattle.encoding_kernels.proofs.MaskPartLemmas.{mask_between, part_size, sixteen_small}
 use Rattle.encoding_kernels.proofs.utf8_to_utf16.code_units.kept_between.Goals as goal
 
 pub returns : goal.returns

@@ -1,4 +1,4 @@
-use Rattle.encoding_kernels.proofs.CompressLemmas.{sixteen_small}
+use Rattle.encoding_kernels.proofs.MaskPartLemmas.{sixteen_small}
 use Rattle.encoding_kernels.proofs.GroupLemmas.{part_long, part_stored, stride_marks}
 use Rattle.encoding_kernels.proofs.utf8_to_utf16.strides.write_stride.Goals as goal
 
