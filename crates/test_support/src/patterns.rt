@@ -1,18 +1,18 @@
-//! Long streams of a pattern, which keep none of its bytes. A round ends within a character or a malformed sequence.
+//! Long streams of a pattern that store none of its bytes. A round can end in a character or in a malformed sequence.
 
 use std::io::{Error, ErrorKind, Read, Result, Write};
 
-/// A letter, U+2603, a letter, three bytes of an incomplete sequence, a letter, and U+1F4A9.
+/// A letter, U+2603, a letter, an incomplete sequence of three bytes, a letter, and U+1F4A9.
 pub const PATTERN: [u8; 13] = [
     0x61, 0xE2, 0x98, 0x83, 0x62, 0xF0, 0x9F, 0x92, 0x63, 0xF0, 0x9F, 0x92, 0xA9,
 ];
 
-/// A repaired period.
+/// The repaired text of the pattern.
 pub const REPAIRED: [u8; 13] = [
     0x61, 0xE2, 0x98, 0x83, 0x62, 0xEF, 0xBF, 0xBD, 0x63, 0xF0, 0x9F, 0x92, 0xA9,
 ];
 
-/// Returns the byte at an offset of letters followed by a repeated pattern.
+/// Returns the byte at index `at` of a stream: first the letters, then the pattern over and over.
 fn byte_at(letters: usize, pattern: &[u8; 13], at: usize) -> u8 {
     match at.checked_sub(letters) {
         Some(place) => pattern[place % 13],
@@ -20,21 +20,21 @@ fn byte_at(letters: usize, pattern: &[u8; 13], at: usize) -> u8 {
     }
 }
 
-/// Returns the repeated pattern, as many bytes as are requested, up to a length, and then ends or fails.
+/// Yields the pattern over and over, as many bytes as are requested, up to a length. Then it ends or fails.
 #[derive(Drop)]
 pub struct PatternInput {
     letters: usize,
     pattern: [u8; 13],
     length: usize,
     fault: Option<ErrorKind>,
-    /// How many bytes it returned.
+    /// The number of bytes that it yielded.
     pub yielded: usize,
-    /// How often it was read after its last byte.
+    /// The number of reads after its last byte.
     pub asked_after: usize,
 }
 
 impl PatternInput {
-    /// Returns an input that returns `length` bytes, and then fails if there is an error.
+    /// Returns an input of `length` bytes, which then fails if there is a `fault`.
     pub fn of(length: usize, fault: Option<ErrorKind>) -> PatternInput {
         PatternInput {
             letters: 0,
@@ -46,7 +46,7 @@ impl PatternInput {
         }
     }
 
-    /// Returns the input with this many letters first.
+    /// Returns the input with this many letters before the pattern.
     pub fn after_letters(self, letters: usize) -> PatternInput {
         let mut input = self;
         input.letters = letters;
@@ -80,26 +80,26 @@ impl Read for PatternInput {
     }
 }
 
-/// Takes a number of bytes and then fails once, and compares what it takes with the repaired pattern.
+/// Takes a number of bytes and then fails once. Compares what it takes with the repaired pattern.
 #[derive(Drop)]
 pub struct PatternOutput {
     letters: usize,
     takes: usize,
     failed: bool,
-    /// How many bytes it took.
+    /// The number of bytes that it took.
     pub taken: usize,
     /// Whether they were those of the repaired pattern.
     pub same: bool,
-    /// How often it was written to after its error.
+    /// The number of writes after its error.
     pub asked_after: usize,
-    /// How often it was flushed.
+    /// The number of flushes.
     pub flushes: usize,
-    /// How many bytes it had taken when it was last flushed.
+    /// The number of bytes that it had taken at its last flush.
     pub flushed_at: usize,
 }
 
 impl PatternOutput {
-    /// Returns an output that takes `takes` bytes, fails once, and takes all from then on.
+    /// Returns an output that takes `takes` bytes, fails once, and takes all bytes from then on.
     pub fn that_takes(takes: usize) -> PatternOutput {
         PatternOutput {
             letters: 0,
@@ -113,7 +113,7 @@ impl PatternOutput {
         }
     }
 
-    /// Returns the output, which compares the first bytes with this many letters.
+    /// Returns the output, comparing with this many letters before the pattern.
     pub fn after_letters(self, letters: usize) -> PatternOutput {
         let mut output = self;
         output.letters = letters;

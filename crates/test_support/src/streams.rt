@@ -3,20 +3,20 @@ ghost use Rattle.std.specs.Prelude.{◌≤◌};
 
 use std::io::{Error, ErrorKind, Read, Result, Write};
 
-/// Returns its bytes, `step` per read, and then ends or fails.
+/// Yields its bytes, at most `step` with each read, and then ends or fails.
 #[derive(Drop)]
 pub struct Input<'a> {
     rest: &'a [u8],
     step: usize,
     fault: Option<ErrorKind>,
-    /// How often it was read.
+    /// The number of its reads.
     pub asked: usize,
-    /// How often it was read after its last byte.
+    /// The number of reads after its last byte.
     pub asked_after: usize,
 }
 
 impl<'a> Input<'a> {
-    /// Returns an input that returns these bytes, `step` per read, and ends.
+    /// Returns an input that yields these bytes, at most `step` with each read, and ends.
     pub fn of(bytes: &'a [u8], step: usize) -> Input<'a> {
         Input {
             rest: bytes,
@@ -27,7 +27,7 @@ impl<'a> Input<'a> {
         }
     }
 
-    /// Returns an input that returns these bytes, one per read, and then fails.
+    /// Returns an input that yields these bytes, one with each read, and then fails.
     pub fn that_fails(bytes: &'a [u8], fault: ErrorKind) -> Input<'a> {
         Input {
             rest: bytes,
@@ -38,7 +38,7 @@ impl<'a> Input<'a> {
         }
     }
 
-    /// Returns the input with `step` bytes per read.
+    /// Returns the input with at most `step` bytes with each read.
     pub fn by_steps_of(self, step: usize) -> Input<'a> {
         let mut input = self;
         input.step = step;
@@ -66,7 +66,7 @@ impl Read for Input<'_> {
 /// Fills each buffer with zeros, and never ends.
 #[derive(Drop)]
 pub struct Endless {
-    /// How often it was read.
+    /// The number of its reads.
     pub asked: usize,
 }
 
@@ -80,10 +80,10 @@ impl Read for Endless {
     }
 }
 
-/// The most bytes that an [`Output`] takes.
+/// The most bytes that an [`Output`] holds.
 pub const OUTPUT_CAPACITY: usize = 2048;
 
-/// Takes a number of bytes per call and a number in all, and then fails, or takes none if it has no error.
+/// Takes at most `step` bytes with each call and `takes` in total. Then it fails, or takes none if it has no fault.
 #[derive(Drop)]
 pub struct Output {
     bytes: [u8; OUTPUT_CAPACITY],
@@ -92,17 +92,17 @@ pub struct Output {
     takes: usize,
     fault: Option<ErrorKind>,
     flushable: bool,
-    /// How often it was written to.
+    /// The number of its writes.
     pub asked: usize,
-    /// How often it was flushed.
+    /// The number of its flushes.
     pub flushes: usize,
-    /// How many bytes it had taken when it was last flushed.
+    /// The number of bytes that it had taken at its last flush.
     pub flushed_at: usize,
     ghost within: { count ≤ 2048 },
 }
 
 impl Output {
-    /// Returns an output that takes `takes` bytes in all, and then fails, or takes none if there is no error.
+    /// Returns an output that takes `takes` bytes in total. Then it fails, or takes none if there is no fault.
     pub fn that_takes(takes: usize, fault: Option<ErrorKind>) -> Output {
         Output {
             bytes: [0x71; OUTPUT_CAPACITY],
@@ -122,14 +122,14 @@ impl Output {
         Output::that_takes(OUTPUT_CAPACITY, None)
     }
 
-    /// Returns an output that takes all bytes, at most `step` per call.
+    /// Returns an output that takes all bytes, at most `step` with each call.
     pub fn by_steps_of(step: usize) -> Output {
         let mut output = Output::that_takes_all();
         output.step = step;
         output
     }
 
-    /// Returns an output that takes all bytes, and fails if it is flushed.
+    /// Returns an output that takes all bytes, and fails when it is flushed.
     pub fn that_cannot_flush() -> Output {
         let mut output = Output::that_takes_all();
         output.flushable = false;
@@ -169,8 +169,8 @@ impl Write for Output {
     }
 }
 
-/// Compares what it takes with a text, and keeps none of it. Takes a number of bytes per call and a number in all, and
-/// then fails, or takes none if it has no error.
+/// Compares what it takes with a text, and keeps none of it. Takes at most `step` bytes with each call and `left` in total.
+/// Then it fails, or takes none if it has no fault.
 #[derive(Drop)]
 pub struct Compared<'a> {
     rest: &'a [u8],
@@ -178,16 +178,16 @@ pub struct Compared<'a> {
     left: usize,
     fault: Option<ErrorKind>,
     stopped: bool,
-    /// How many bytes it took.
+    /// The number of bytes that it took.
     pub taken: usize,
     /// Whether they were those of the text.
     pub same: bool,
-    /// How often it was written to after it had stopped.
+    /// The number of writes after it had stopped.
     pub asked_after: usize,
 }
 
 impl<'a> Compared<'a> {
-    /// Returns an output that takes all bytes, at most `step` per call, and compares them with the text.
+    /// Returns an output that takes all bytes, at most `step` with each call, and compares them with the text.
     pub fn with(text: &'a [u8], step: usize) -> Compared<'a> {
         Compared {
             rest: text,
@@ -201,7 +201,7 @@ impl<'a> Compared<'a> {
         }
     }
 
-    /// Returns the output, which takes `takes` bytes in all, and then fails, or takes none if there is no error.
+    /// Returns the output, which takes `takes` bytes in total. Then it fails, or takes none if there is no fault.
     pub fn that_takes(self, takes: usize, fault: Option<ErrorKind>) -> Compared<'a> {
         let mut output = self;
         output.left = takes;

@@ -17,7 +17,5 @@
 mod buffers;
 mod lines;
 mod long_streams;
-mod patterns;
 mod peers;
 mod serve_rows;
-mod streams;

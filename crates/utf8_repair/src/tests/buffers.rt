@@ -3,11 +3,11 @@
 
 use super::peers::{Arrived, Counted, FailsOnce, Flaky, Peer};
 use super::serve_rows::FAULTS;
-use super::streams::{Input, Output};
 use crate::service::serve;
 use crate::streams::{BufferedWriter, FlushPolicy, ReadAhead};
 use std::cell::Cell;
 use std::io::{ErrorKind, Read, Write};
+use test_support::streams::{Input, Output};
 
 pub const TEXT: &[u8] = b"thirty-nine bytes, and each a real one.";
 

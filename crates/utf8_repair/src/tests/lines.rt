@@ -1,10 +1,10 @@
 //! The bytes of one read are written by one write, before the next read.
 
 use super::peers::{Arrived, Counted, Lengths, Lines, Row, Typist};
-use super::streams::Output;
 use crate::service::serve;
 use crate::streams::{BufferedWriter, FlushPolicy, PIPE_CAPACITY, ReadAhead};
 use std::cell::Cell;
+use test_support::streams::Output;
 
 /// One read leaves by one write, except for the last four bytes if no whole character ends them: they may have up to
 /// five parts.

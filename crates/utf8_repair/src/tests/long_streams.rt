@@ -2,13 +2,13 @@
 //! the program. And late statuses: of input far longer than every buffer, if no stream fails, and of a flush that fails
 //! below the arrays of the program.
 
-use super::patterns::{PatternInput, PatternOutput};
 use super::serve_rows::{CUTS, READ_FAULT, ROWS, WRITE_FAULT};
-use super::streams::{Input, Output};
 use crate::service::serve;
 use crate::streams::{BufferedWriter, FlushPolicy, PIPE_CAPACITY, ReadAhead};
 use std::cell::Cell;
 use std::io::{ErrorKind, Read, Write};
+use test_support::patterns::{PatternInput, PatternOutput};
+use test_support::streams::{Input, Output};
 
 /// The number of bytes of the pattern that the streams yield. They end in an incomplete sequence.
 const LENGTH: usize = 200_000;

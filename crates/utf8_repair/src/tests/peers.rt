@@ -3,9 +3,9 @@
 
 ghost use Rattle.std.specs.Prelude.{◌≤◌};
 
-use super::streams::Output;
 use std::cell::Cell;
 use std::io::{Error, ErrorKind, Read, Result, Write};
+use test_support::streams::Output;
 
 /// Yields its bytes, `step` with each read. Counts the reads before which some bytes due had not arrived. All bytes are
 /// due, except an incomplete group of four at the end.

@@ -2,11 +2,12 @@
 //! take the rest.
 
 use super::peers::Flaky;
-use super::streams::{Input, OUTPUT_CAPACITY, Output, exhaust};
 use crate::service::{report, serve};
 use std::cell::Cell;
 use std::io::{ErrorKind, Read};
 use std::test::Fail;
+use test_support::memory::exhaust;
+use test_support::streams::{Input, OUTPUT_CAPACITY, Output};
 
 /// The input of a run, its expected output, and its status.
 pub struct Row {
