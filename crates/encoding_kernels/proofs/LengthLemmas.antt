@@ -1,5 +1,5 @@
 -- The sums over whole texts are the lengths in another encoding.
-use Rattle.std.proofs.Common.{◌≡◌, ℕ, suc, ◌+◌, ◌/◌, ◌%◌, ◌<◌, ◌≤◌, inl, inr, false, cond, List, [], ◌∷◌, ◌++◌, length, slice_index, nat_le, encode_utf8, encode_utf8_all, refl, sym, ap, ◌∙◌, arith, subst}
+use Rattle.std.proofs.Common.{◌≡◌, ℕ, suc, ◌+◌, ◌*◌, ◌/◌, ◌%◌, ◌<◌, ◌≤◌, inl, inr, false, cond, List, [], ◌∷◌, ◌++◌, length, slice_index, nat_le, encode_utf8, encode_utf8_all, refl, sym, ap, ◌∙◌, arith, subst}
 use Rattle.std.specs.Char.{IsScalar, len_utf8}
 use Rattle.std.specs.Char.Escape.{encode_utf16}
 use Rattle.std.specs.List.{flat_map}
@@ -39,30 +39,33 @@ unfolding sum_over_suffixes
 latin1_total [] h = refl
 latin1_total (b ∷ bs) h = omega (arith, latin1_total bs (λ k. h (suc k)), latin1_one b (h 0), length-append (encode_utf8 b) (encode_utf8_all bs))
 
--- a lead for each character of two bytes
-leads_of_one : (c : ℕ) (rest : List ℕ) → c ≤ 0xFF
-    → 1 + sum_over_suffixes (one_if_at_least 0xC0) (encode_utf8 c ++ rest) ≡ length (encode_utf8 c) + sum_over_suffixes (one_if_at_least 0xC0) rest
+-- two bytes that aren't ASCII for each character that isn't
+beyond_of_one : (c : ℕ) (rest : List ℕ) → c ≤ 0xFF
+    → 2 + sum_over_suffixes (one_if_at_least 0x80) (encode_utf8 c ++ rest) ≡ 2 * length (encode_utf8 c) + sum_over_suffixes (one_if_at_least 0x80) rest
 unfolding sum_over_suffixes
-leads_of_one c rest l = elim (cases_lt c 128) [
-  | inl p ↦ rw (one c p) (omega (arith, low_end 0xC0 c (omega arith)))
-  | inr p ↦ rw (two c p (omega arith)) (omega (arith, high_end 0xC0 (192 + c / 64) (omega arith), low_end 0xC0 (128 + c % 64) (omega arith)))
+beyond_of_one c rest l = elim (cases_lt c 128) [
+  | inl p ↦ rw (one c p) (omega (arith, low_end 0x80 c p))
+  | inr p ↦ rw (two c p (omega arith)) (omega (arith, high_end 0x80 (192 + c / 64) (omega arith), high_end 0x80 (128 + c % 64) (omega arith)))
 ]
 
-leads_total : (cs : List ℕ) → IsLatin1 cs → length cs + sum_over_suffixes (one_if_at_least 0xC0) (encode_utf8_all cs) ≡ length (encode_utf8_all cs)
+beyond_total : (cs : List ℕ) → IsLatin1 cs
+    → 2 * length cs + sum_over_suffixes (one_if_at_least 0x80) (encode_utf8_all cs) ≡ 2 * length (encode_utf8_all cs)
 unfolding sum_over_suffixes
-leads_total [] h = refl
-leads_total (c ∷ cs) h = omega (
+beyond_total [] h = refl
+beyond_total (c ∷ cs) h = omega (
   arith,
-  leads_total cs (λ k. h (suc k)),
-  leads_of_one c (encode_utf8_all cs) (h 0),
+  beyond_total cs (λ k. h (suc k)),
+  beyond_of_one c (encode_utf8_all cs) (h 0),
   length-append (encode_utf8 c)
       (encode_utf8_all cs),
 )
 
-pub chars_total : (bs : List ℕ) → IsUtf8Latin1 bs → length (chars bs) + sum_over_suffixes (one_if_at_least 0xC0) bs ≡ length bs
+pub chars_total : (bs : List ℕ) → IsUtf8Latin1 bs → length (chars bs) + sum_over_suffixes (one_if_at_least 0x80) bs / 2 ≡ length bs
 chars_total bs h =
     let text = latin1_chars bs h in
-    subst (λ xs. length (chars bs) + sum_over_suffixes (one_if_at_least 0xC0) xs ≡ length xs) text.1 (leads_total (chars bs) text.0)
+    let total : 2 * length (chars bs) + sum_over_suffixes (one_if_at_least 0x80) bs ≡ 2 * length bs =
+    subst (λ xs. 2 * length (chars bs) + sum_over_suffixes (one_if_at_least 0x80) xs ≡ 2 * length xs) text.1 (beyond_total (chars bs) text.0) in
+    omega (arith, total)
 
 -- ---- UTF-8: the bytes that continue each byte
 low_third : (a c : ℕ) → a < 0xE0 → goes_third a c ≡ false
