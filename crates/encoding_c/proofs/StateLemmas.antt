@@ -80,25 +80,6 @@ pending_again src pending returned read q call = said returned (same_piece [] sr
     said (piece.Malformed k) s = absurd s
     said piece.InputEmpty s = refl
 
--- the last bytes, one after another
-pub compress_last : (xs prefix q : List ℕ) (a b c n : ℕ) → xs ≡ prefix ++ q → length q ≤ 3 → n ≡ length prefix → a ≡ slice_index xs n
-    → b ≡ slice_index xs (n + 1) → c ≡ slice_index xs (n + 2)
-    → take (length q) (a ∷ b ∷ c ∷ []) ≡ q
-compress_last xs prefix q a b c n e few at f g h = three q few (f ∙ ap (slice_index xs) (zero n) ∙ here 0) (g ∙ here 1) (h ∙ here 2)
-  where
-    zero : (m : ℕ) → m ≡ m + 0
-    zero m = omega arith
-
-    here : (k : ℕ) → slice_index xs (n + k) ≡ slice_index q k
-    here k = ap (λ ys. slice_index ys (n + k)) e ∙ ap (λ m. slice_index (prefix ++ q) (m + k)) at ∙ get_or-append-add prefix q k 0
-
-    three : (ys : List ℕ) → length ys ≤ 3 → a ≡ slice_index ys 0 → b ≡ slice_index ys 1 → c ≡ slice_index ys 2 → take (length ys) (a ∷ b ∷ c ∷ []) ≡ ys
-    three [] few f g h = refl
-    three (x ∷ []) few f g h = ap (λ k. k ∷ []) f
-    three (x ∷ y ∷ []) few f g h = (λ i. (f i) ∷ (g i) ∷ [])
-    three (x ∷ y ∷ z ∷ []) few f g h = (λ i. (f i) ∷ (g i) ∷ (h i) ∷ [])
-    three (x ∷ y ∷ z ∷ w ∷ ys) few f g h = absurd (omega (arith, few))
-
 -- the unit left pending is the last one of the pending surrogate before and the source
 last_unit : (surrogate src prefix left_open : List ℕ) (before unit : ℕ) → surrogate ++ src ≡ prefix ++ left_open → IsPendingSurrogate left_open
     → (0 < length surrogate → surrogate ≡ before ∷ [])

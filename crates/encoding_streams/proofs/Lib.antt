@@ -10,6 +10,7 @@ pub mod Utf16OneResultLemmas
 pub mod DecoderYieldLemmas
 pub mod InnerLemmas
 pub mod DecoderCallLemmas
+pub mod ReportedCallLemmas
 pub mod SniffLemmas
 pub mod SniffCallLemmas
 pub mod ReplacingCallLemmas

@@ -10,7 +10,7 @@ use Rattle.encoding_streams.specs.declared.encoding.BomHandling.{BomHandling}
 use Rattle.encoding_streams.specs.declared.encoding.BomHandling.TheVariants.{Off, Remove, Sniff}
 use Rattle.encoding_streams.specs.Decoders.{DecoderState, EndsReporting, FittingBeginsIn, StartsWithIn, YieldParts, SufficesReporting, left, queried, queried_in}
 use Rattle.encoding_streams.specs.DecoderSteps.{IsSniffed, Reports}
-use Rattle.encoding_streams.proofs.DecoderCallLemmas.{not_full, not_report}
+use Rattle.encoding_streams.proofs.ReportedCallLemmas.{not_full, not_report}
 
 -- ---- the queried lengths
 module _ (query : Encoding → ℕ → ℕ → ℕ) (grows : (e : Encoding) (n p m q : ℕ) → n + p ≤ m + q → query e n p ≤ query e m q) where

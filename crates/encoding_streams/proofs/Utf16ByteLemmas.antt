@@ -110,9 +110,6 @@ character_bytes order c s = elim (cases_lt c 0x10000) [
       )
 ]
 
-pub length-character : (order : ByteOrder) (c : ℕ) → length (utf16_bytes order (encode_utf16 c)) ≡ 2 * length (encode_utf16 c)
-length-character order c = length-utf16_bytes order (encode_utf16 c)
-
 pub character_some : (order : ByteOrder) (c : ℕ) → IsScalar c → 2 ≤ length (utf16_bytes order (encode_utf16 c))
 character_some order c s = elim (character_bytes order c s) [
   | inl h ↦ omega (arith, ap length h.2, length-unit_bytes order c)

@@ -6,7 +6,7 @@ use Rattle.encoding_definitions.specs.Parts.{BeginsWithNoCharacter}
 use Rattle.encoding_text.specs.Decoding.{IsMalformed}
 use Rattle.encoding_text.specs.Steps.{GoesOn}
 use Rattle.encoding_definitions.proofs.PartsLemmas.{first_open}
-use Rattle.encoding_definitions.proofs.SequenceLemmas.{decide_incomplete, IsSequence-HasShape}
+use Rattle.encoding_definitions.proofs.SequenceLemmas.{decide_incomplete}
 use Rattle.encoding_text.proofs.CallLemmas.{malformed_first, malformed_rejected, single_byte, take_one, unpaired_incomplete}
 use Rattle.encoding_text.proofs.PendingLemmas.{SequenceLength, goes_on, longer_incomplete, pending_incomplete, whole_sequence}
 
@@ -22,10 +22,6 @@ incomplete_none bs o = (first_open bs o).0
 pub shows_malformed : (bs : List ℕ) (n : ℕ) → n ≤ 3 → n ≤ length bs → ((last : Bool) → IsMalformed (take n bs) (drop n bs) last)
     → (n ≤ 3) × (n ≤ length bs) × BeginsWithNoCharacter bs × ((last : Bool) → IsMalformed (take n bs) (drop n bs) last)
 shows_malformed bs n short within malformed = (short, within, malformed_none bs n false (malformed false), malformed)
-
--- an ASCII byte is a character
-pub ascii_first : (bs : List ℕ) → 0 < length bs → slice_index bs 0 < 0x80 → IsSequence (take 1 bs)
-ascii_first bs some l = subst IsSequence (sym (take_one bs some)) (IsSequence-HasShape (slice_index bs 0 ∷ []) (omega arith))
 
 -- a first byte that begins no sequence, or that no continuation byte follows
 module _ (bs : List ℕ) (other : 0x80 ≤ slice_index bs 0) where

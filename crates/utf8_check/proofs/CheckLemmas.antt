@@ -22,7 +22,7 @@ use Rattle.encoding_runs.proofs.ChainLemmas.{yielded_bytes}
 use Rattle.utf8_check.specs.declared.input.Mode.{Mode}
 use Rattle.utf8_check.specs.declared.input.Mode.TheVariants as mode
 use Rattle.utf8_check.specs.Lines.{next_place, place_after, line_of, AreLines}
-use Rattle.utf8_check.specs.Checks.{IsWritten, ChecksBlock, Checks, StopsChecking, Reports, malformed_in}
+use Rattle.utf8_check.specs.Checks.{IsWritten, ChecksBlock, Checks, StopsChecking, Reports}
 use Rattle.utf8_check.proofs.PlaceLemmas.{place_after-append}
 
 -- ---- lines of parts, and of more parts
@@ -268,14 +268,6 @@ checks_step name m place next start end p src last read q InputEmpty text count 
     subst (λ xs. ChecksBlock name m place start (p ++ src) last xs count (q ++ drop read src) next end) (sym none)
     (subst (λ n. ChecksBlock name m place start (p ++ src) last [] n (q ++ drop read src) next end) (sym zero)
     (checks_end name m place next start end p src last read q offset s is))
-
--- without lines nothing is written
-pub reports_none : (name : List ℕ) (m : Mode) (place : ℕ × ℕ) (returned : SearchPiece) (next : ℕ × ℕ) → (m ≡ mode.List → ⊥)
-    → Reports name m place returned [] (malformed_in returned) next
-reports_none name m place (Text t) next none = (refl, refl, λ e. absurd (none e))
-reports_none name m place (Char c) next none = (refl, refl, λ e. absurd (none e))
-reports_none name m place (Malformed found bytes) next none = (refl, (λ e. absurd (none e)), λ _. refl)
-reports_none name m place InputEmpty next none = (refl, refl, λ e. absurd (none e))
 
 -- ---- a block
 module _ (name : List ℕ) (m : Mode) (place : ℕ × ℕ) (offset : ℕ) (bs : List ℕ) (last : Bool) (old : Option (List ℕ)) (src : List ℕ) (new : Option (List ℕ))

@@ -1,4 +1,4 @@
-use Rattle.encoding_streams.proofs.DecoderCallLemmas.{inner_reports}
+use Rattle.encoding_streams.proofs.ReportedCallLemmas.{inner_reports}
 use Rattle.encoding_streams.proofs.decoder.state.decode_neutral.Goals as goal
 
 pub returns-clause-reports : goal.returns-clause-reports

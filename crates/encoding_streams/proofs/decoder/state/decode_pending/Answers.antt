@@ -2,7 +2,8 @@ use Rattle.std.proofs.Common.{◌≡◌, ◌+◌, ◌-◌, ◌++◌, length, tak
 use Rattle.std.proofs.lemmas.Bool.{both_ways}
 use Rattle.std.proofs.lemmas.List.{length-drop}
 use Rattle.encoding_streams.specs.DecoderSteps.{state_of}
-use Rattle.encoding_streams.proofs.DecoderCallLemmas.{inner_reports, inner_now, two_reports, two_free, held_reports, held_kept, free_held, stop_reports, stop_free, stop_nothing, rest_within, rest_of_held, suffix_is, both_kept}
+use Rattle.encoding_streams.proofs.DecoderCallLemmas.{both_kept, rest_of_held, rest_within, suffix_is}
+use Rattle.encoding_streams.proofs.ReportedCallLemmas.{free_held, held_kept, held_reports, inner_now, inner_reports, stop_free, stop_nothing, stop_reports, two_free, two_reports}
 use Rattle.encoding_streams.proofs.decoder.state.decode_pending.Goals as goal
 
 pub suffix-state-requires-clause-at_most_three : goal.suffix-state-requires-clause-at_most_three
