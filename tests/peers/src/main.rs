@@ -1,12 +1,22 @@
-//! Compares encoding_text with encoding_rs: one program, program.rs, over both. Prints how many random streams were decoded.
+//! Compares encoding_text with encoding_rs: one program, program.rs and calls.rs, over both. Prints how many streams were
+//! decoded, and of how many each call was compared.
 
+mod compared;
 mod ours {
+    use crate::compared::{Known, Piece, To};
     use encoding_text as encodings;
+    const MORE: usize = 0;
     include!("program.rs");
+    include!("calls.rs");
 }
 mod theirs {
+    use crate::compared::{Known, Piece, To};
     use encoding_rs as encodings;
+    /// What a queried length may lack: encoding_rs doesn't count U+0000 if it was read after an unpaired surrogate. After
+    /// D8 3D 00 00 of UTF-16BE, two bytes and U+0000 don't fit the four bytes that it asks for.
+    const MORE: usize = 3;
     include!("program.rs");
+    include!("calls.rs");
 }
 
 const STREAMS: usize = 10_000;
@@ -105,4 +115,6 @@ fn main() {
         compared += 1;
     }
     println!("{compared} streams");
+    println!("{} random streams, call by call", compared::random_streams(1) + compared::random_streams(2603));
+    println!("{} hard streams, call by call", compared::hard_streams());
 }
