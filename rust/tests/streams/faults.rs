@@ -1,7 +1,31 @@
-//! Errors that a reader or a sink of a test returns.
+//! Errors that a reader or a sink of a test returns, and a bound of how often a test reads.
 #![allow(dead_code)]
 use std::fmt;
-use std::io::{self, ErrorKind};
+use std::io::{self, ErrorKind, Read};
+
+/// More reads or writes than any test makes over one stream. After these a test fails: without the bound, a reader that
+/// repeats its error or its last bytes for ever would make it hang.
+pub const TOO_MANY: usize = 1_000_000;
+
+/// A reader that panics if it is read too often, for methods of `Read` that read until the end.
+pub struct Bounded<'a, R> {
+    reader: &'a mut R,
+    reads: usize,
+}
+
+impl<'a, R> Bounded<'a, R> {
+    pub fn new(reader: &'a mut R) -> Self {
+        Bounded { reader, reads: 0 }
+    }
+}
+
+impl<R: Read> Read for Bounded<'_, R> {
+    fn read(&mut self, buffer: &mut [u8]) -> io::Result<usize> {
+        self.reads += 1;
+        assert!(self.reads < TOO_MANY, "reads without end");
+        self.reader.read(buffer)
+    }
+}
 
 /// The kinds of errors that streams have.
 pub const KINDS: [ErrorKind; 22] = [

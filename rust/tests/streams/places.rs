@@ -1,5 +1,6 @@
 //! The malformed sequences that `Repair` and `DecodeUtf16` hand out: those of the whole, for any pieces and buffers.
 
+use crate::faults::TOO_MANY;
 use encoding_text::{next_malformation, DecodeUtf16, Malformation, Repair, StreamMalformation};
 use std::io::{self, Read};
 
@@ -54,13 +55,14 @@ fn places<U: Copy + Default>(
     mut read: impl FnMut(&mut [U], &mut dyn FnMut(StreamMalformation)) -> io::Result<usize>,
 ) -> Vec<StreamMalformation> {
     let mut found = Vec::new();
-    loop {
+    for _ in 0..TOO_MANY {
         match read(&mut vec![U::default(); room], &mut |place| found.push(place)) {
             Ok(0) => return found,
             Ok(_) => {}
             Err(error) => assert_eq!(error.kind(), io::ErrorKind::Interrupted),
         }
     }
+    panic!("reads without end");
 }
 
 /// Rows of the Unicode Standard's Tables 3-8 to 3-11, and one of each kind.

@@ -2,7 +2,7 @@
 //! What they request from their inner reader, its errors, and the inner reader itself.
 
 use crate::common::rows::{named, Unit};
-use crate::faults::{assert_unchanged, kind_named, with_payload, KINDS};
+use crate::faults::{assert_unchanged, kind_named, with_payload, Bounded, KINDS, TOO_MANY};
 use encoding_text::{DecodeUtf16, Repair};
 use std::fmt::UpperHex;
 use std::io::{self, ErrorKind, Read};
@@ -18,6 +18,7 @@ impl Read for Scripted {
     fn read(&mut self, buffer: &mut [u8]) -> io::Result<usize> {
         let word = self.words.get(self.reads).copied().unwrap_or("none");
         self.reads += 1;
+        assert!(self.reads < TOO_MANY, "reads without end");
         // a reader may write anywhere in the buffer, and only the bytes that it counts are text
         buffer.fill(b'Z');
         if let Some(kind) = kind_named(word) {
@@ -206,6 +207,7 @@ struct Letters {
 
 impl Read for Letters {
     fn read(&mut self, buffer: &mut [u8]) -> io::Result<usize> {
+        assert!(self.requested.len() < 100, "reads without end");
         self.requested.push(buffer.len());
         buffer.fill(b'a');
         Ok(buffer.len())
@@ -225,6 +227,13 @@ fn requests() {
     }
 }
 
+/// Returns how much was read: something.
+fn not_ended(result: io::Result<usize>) -> usize {
+    let count = result.unwrap();
+    assert_ne!(count, 0);
+    count
+}
+
 /// By default a read is made for each 8,192 bytes, in whatever pieces the text is read.
 #[test]
 fn default_requests() {
@@ -232,13 +241,13 @@ fn default_requests() {
         let mut text = Repair::new(Letters::default());
         let mut count = 0;
         while count < 3 * 8192 {
-            count += text.read(&mut vec![0; length]).unwrap();
+            count += not_ended(text.read(&mut vec![0; length]));
         }
         assert_eq!(text.get_ref().requested, [8192; 3], "{length}");
         let mut text = DecodeUtf16::new(Letters::default());
         let mut count = 0;
         while count < 3 * 8192 {
-            count += text.read(&mut vec![0; length]).unwrap();
+            count += not_ended(text.read(&mut vec![0; length]));
         }
         assert_eq!(text.get_ref().requested, [8192; 3], "{length}");
     }
@@ -297,13 +306,14 @@ fn methods_that_try_again() {
     };
     let mut text = String::new();
     let mut repair = Repair::new(reader());
-    assert_eq!(repair.read_to_string(&mut text).unwrap(), 14);
+    assert_eq!(Bounded::new(&mut repair).read_to_string(&mut text).unwrap(), 14);
     assert_eq!(
         (text.as_str(), repair.replaced()),
         ("a\u{2603}\u{FFFD}\u{1F600}\u{FFFD}", 2)
     );
     let mut first = [0; 7];
-    Repair::new(reader()).read_exact(&mut first).unwrap();
+    let mut repair = Repair::new(reader());
+    Bounded::new(&mut repair).read_exact(&mut first).unwrap();
     assert_eq!(first, *"a\u{2603}\u{FFFD}".as_bytes());
 }
 

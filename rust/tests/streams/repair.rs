@@ -4,7 +4,7 @@
 
 use crate::common::rows::named;
 use crate::common::*;
-use crate::faults::{assert_unchanged, kind_named, with_payload, KINDS};
+use crate::faults::{assert_unchanged, kind_named, with_payload, Bounded, KINDS, TOO_MANY};
 use encoding_text::{next_malformed, repair, repair_to, utf8_chunks, DecodeUtf16, Repair};
 use std::borrow::Cow;
 use std::io::{self, ErrorKind, Read, Write};
@@ -19,6 +19,7 @@ struct Scripted {
 
 impl Write for Scripted {
     fn write(&mut self, bytes: &[u8]) -> io::Result<usize> {
+        assert!(self.lengths.len() < TOO_MANY, "writes without end");
         let word = self.words.get(self.lengths.len()).copied().unwrap_or("all");
         self.lengths.push(bytes.len());
         if let Some(kind) = kind_named(word) {
@@ -130,6 +131,7 @@ impl Write for FailingWith {
     fn write(&mut self, bytes: &[u8]) -> io::Result<usize> {
         if self.room == 0 {
             self.failures += 1;
+            assert!(self.failures < TOO_MANY, "writes without end");
             return Err(with_payload(self.kind));
         }
         let count = bytes.len().min(self.room);
@@ -206,6 +208,7 @@ fn random_bytes() {
 struct Failing {
     taken: Vec<u8>,
     most: usize,
+    failures: usize,
 }
 
 impl Write for Failing {
@@ -213,6 +216,8 @@ impl Write for Failing {
         let count = bytes.len().min(5).min(self.most - self.taken.len());
         self.taken.extend_from_slice(&bytes[..count]);
         if count == 0 {
+            self.failures += 1;
+            assert!(self.failures < TOO_MANY, "writes without end");
             return Err(io::Error::other("full"));
         }
         Ok(count)
@@ -233,6 +238,7 @@ fn a_failing_sink_has_a_prefix() {
         let mut sink = Failing {
             taken: Vec::new(),
             most,
+            failures: 0,
         };
         assert_eq!(repair_to(&bytes, &mut sink).is_ok(), most >= wanted.len());
         assert_eq!(sink.taken, &wanted.as_bytes()[..most.min(wanted.len())]);
@@ -255,6 +261,7 @@ impl Read for Pieces<'_> {
             _ => {}
         }
         self.asked_after += usize::from(self.rest.is_empty());
+        assert!(self.asked_after < TOO_MANY, "reads without end");
         let count = 1 + self.random.length(buffer.len().max(1) - 1);
         let (piece, rest) = self.rest.split_at(count.min(self.rest.len()));
         buffer[..piece.len()].copy_from_slice(piece);
@@ -281,7 +288,8 @@ fn repairs_random_pieces() {
         let most = 1 + random.length(300);
         let wanted = String::from_utf8_lossy(&bytes);
         let mut at = 0;
-        loop {
+        for reads in 0.. {
+            assert!(reads < TOO_MANY, "reads without end");
             let length = if random.below(9) == 0 {
                 0
             } else {
@@ -328,7 +336,8 @@ fn decode_utf16() {
         let most = 1 + random.length(300);
         let wanted: Vec<u16> = String::from_utf8_lossy(&bytes).encode_utf16().collect();
         let mut at = 0;
-        loop {
+        for reads in 0.. {
+            assert!(reads < TOO_MANY, "reads without end");
             let length = if random.below(9) == 0 {
                 0
             } else {
@@ -361,7 +370,7 @@ fn long_streams() {
     let wanted = String::from_utf8_lossy(&bytes);
     let mut text = String::new();
     let mut reader = Repair::new(&bytes[..]);
-    reader.read_to_string(&mut text).unwrap();
+    Bounded::new(&mut reader).read_to_string(&mut text).unwrap();
     assert_eq!(text, wanted);
     assert_eq!(reader.replaced(), malformed(&bytes));
     let mut units = vec![0; bytes.len()];
