@@ -1,8 +1,9 @@
 /*
- * Which build c/choose.c selects, over the features of a processor and over environments. It is compiled with an empty
- * names.h, so no function is bound. C99 with GNU's extensions.
+ * Which build c/choose.c selects, over the features of a processor and over environments, and in two threads at once, which
+ * a thread sanitizer watches. It is compiled with an empty names.h, so no function is bound. C99 with GNU's extensions.
  */
 #include <cpuid.h>
+#include <pthread.h>
 #include <stdio.h>
 
 /* The greatest leaf that a processor has, and leaf 7 of one for which a leaf that it doesn't have is all ones. */
@@ -104,8 +105,30 @@ static void settings(void)
     count(!asks_for_v2(none) && !asks_for_v2(NULL), "no environment");
 }
 
+static void *choose(void *choice)
+{
+    *(int *)choice = takes_v3();
+    return NULL;
+}
+
+/* The first choice, in two threads. A library that is loaded while another thread runs may be asked at the same time. */
+static void threads(void)
+{
+    pthread_t first, second;
+    int choices[2] = {-1, -2};
+
+    if (pthread_create(&first, NULL, choose, &choices[0]) != 0 || pthread_create(&second, NULL, choose, &choices[1]) != 0) {
+        count(0, "two threads");
+        return;
+    }
+    pthread_join(first, NULL);
+    pthread_join(second, NULL);
+    count(choices[0] == choices[1], "the same choice in two threads");
+}
+
 int main(void)
 {
+    threads();
     processors();
     settings();
     count(takes_v3() == takes_v3(), "the same choice at each call");

@@ -85,6 +85,8 @@ unset(encoding_text_DIR CACHE)
 find_package(encoding_text REQUIRED)
 add_executable(either repair.c)
 target_link_libraries(either encoding_text::encoding_text)
+# the name by which a project that installs the library copies it
+file(GENERATE OUTPUT "${CMAKE_BINARY_DIR}/soname" CONTENT "$<TARGET_SONAME_FILE_NAME:encoding_text::shared>\n")
 END
     asks() { # ON or OFF
         cmake -S "$work/asks" -B "$work/asks/$1" -DCMAKE_PREFIX_PATH="$staged/srv" -DBUILD_SHARED_LIBS="$1" -DCMAKE_C_COMPILER="${cc[0]}" \
@@ -95,6 +97,7 @@ END
     }
     step "CMake's library with BUILD_SHARED_LIBS" gives "$SHARED\n" asks ON
     step "CMake's library without BUILD_SHARED_LIBS" gives '' asks OFF
+    step 'name of the shared library by CMake' gives "$SHARED\n" cat "$work/asks/ON/soname"
     step 'versions that CMake takes' gives "${VERSION%.*}\n${VERSION%.*}.0\n" versions
     step 'a program of CMake is repair.c' gives 'a\357\277\275Z\n' "$work/asks/ON/either"
 fi
