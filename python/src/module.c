@@ -56,6 +56,11 @@ PyDoc_STRVAR(repair_doc,
              "Return the bytes with U+FFFD for each malformed sequence, and the number of these.\n\n"
              "The bytes are those of data.decode('utf-8', 'replace').encode(). If data is a bytes\n"
              "object and well-formed, it is returned itself.");
+PyDoc_STRVAR(encode_doc,
+             "encode(text, /)\n--\n\n"
+             "Return the UTF-8 of a str with U+FFFD for each unpaired surrogate, and the number of these.\n\n"
+             "A high surrogate and a low one after it are a pair, as in UTF-16: they become the\n"
+             "character that they stand for.");
 PyDoc_STRVAR(is_utf8_doc,
              "is_utf8(data, /)\n--\n\n"
              "Return whether the bytes are well-formed UTF-8.");
@@ -69,6 +74,7 @@ PyDoc_STRVAR(malformed_doc,
              "U+FFFD. The iterator holds the buffer of data until it is exhausted or deleted.");
 
 static PyMethodDef functions[] = {
+    {"encode", encode, METH_O, encode_doc},
     {"repair", repair, METH_O, repair_doc},
     {"is_utf8", is_utf8, METH_O, is_utf8_doc},
     {"valid_up_to", valid_up_to, METH_O, valid_up_to_doc},

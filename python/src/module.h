@@ -1,4 +1,4 @@
-/* What module.c takes from the other files: repair(), and the types. */
+/* What module.c takes from the other files: repair(), encode(), and the types. */
 #ifndef MODULE_H
 #define MODULE_H
 
@@ -14,5 +14,8 @@ PyObject *malformed_iterator(PyObject *type, PyObject *object);
 
 /* Returns the bytes of the argument with U+FFFD for each malformed sequence, and the number of these, as a tuple. */
 PyObject *repair(PyObject *module, PyObject *argument);
+
+/* Returns the UTF-8 of the argument, a text, with U+FFFD for each unpaired surrogate, and the number of these, as a tuple. */
+PyObject *encode(PyObject *module, PyObject *argument);
 
 #endif

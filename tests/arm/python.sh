@@ -31,7 +31,7 @@ if has python3; then
     step 'it installs' python3 -m zipfile -e "$WHEEL" "$work/site"
     if [ -x "$root/usr/bin/python3" ]; then
         # test_memory starts programs, which only a kernel with a handler for ARM64 can
-        step 'tests of the Python package' python_tests test_arguments test_bytes test_incremental test_package test_memory.Threads
+        step 'tests of the Python package' python_tests test_arguments test_bytes test_encode.Encode.test_rows test_incremental test_package test_memory.Threads
     else
         left_out 'tests of the Python package on ARM' 'Python for ARM64'
     fi

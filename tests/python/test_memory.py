@@ -79,6 +79,8 @@ class Memory(unittest.TestCase):
                 self.assertGreaterEqual(self.failures(call, data, wanted), call in (encoding_text.repair, incremental))
         for call in (encoding_text.repair, incremental):
             self.assertGreaterEqual(self.failures(call, LONG, call(LONG)), 1)
+        for text in ('a' * 1000, '\ud800', 'a\ud800' * 5, '\ud83d\ude00' * 5):
+            self.assertGreaterEqual(self.failures(encoding_text.encode, text, encoding_text.encode(text)), 1)
 
     def failures(self, call, data, wanted):
         """Lets the first allocation fail, then the second, until the call succeeds. Returns how often it failed."""
@@ -141,6 +143,10 @@ class Memory(unittest.TestCase):
                     for call in CALLS:
                         with self.assertRaises((TypeError, BufferError)):
                             call(wrong)
+            for text in ('sound' * 1000, 'a\ud800' * 1000):
+                encoding_text.encode(text)
+            with self.assertRaises(TypeError):
+                encoding_text.encode(SHORT)
 
         many()
         gc.collect()

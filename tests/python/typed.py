@@ -8,6 +8,8 @@ import encoding_text.codec
 
 text, replaced = encoding_text.repair(b'')
 count: int = replaced
+data, lone = encoding_text.encode('')
+count += lone + len(data.decode())
 both: bytes = text + encoding_text.repair(bytearray())[0] + encoding_text.repair(memoryview(b''))[0]
 sound: bool = encoding_text.is_utf8(b'')
 length: int = encoding_text.valid_up_to(b'')
