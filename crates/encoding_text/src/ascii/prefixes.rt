@@ -50,11 +50,12 @@ fn ascii_valid_up_to_by_two<const N: usize>(bytes: &[u8]) -> usize
     requires { (0 < N) × (N ≤ 64) × (N ≤ length bytes.now) × (length bytes.now ≤ 2 * N) }
     ensures { IsLongestPrefix IsAscii bytes.now result }
 {
-    let last = bytes.len() - N;
     let first = run_len_below::<N>(bytes, 0, ASCII_END);
-    let end = last + run_len_below::<N>(bytes, last, ASCII_END);
-    // both are known before the test, so that it selects and doesn't jump
-    if first < N { first } else { end }
+    if first < N {
+        return first;
+    }
+    let last = bytes.len() - N;
+    last + run_len_below::<N>(bytes, last, ASCII_END)
 }
 
 /// Returns the length of the longest ASCII prefix, as `ascii_valid_up_to` does, of 16 to 64 bytes.
