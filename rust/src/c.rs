@@ -21,7 +21,7 @@ impl From<Progress> for (usize, usize) {
     }
 }
 
-/// The same, and the number of unpaired surrogates that were replaced.
+/// The number of elements read, of elements written, and of unpaired surrogates that were replaced.
 #[repr(C)]
 pub(crate) struct CountedProgress {
     pub(crate) read: usize,
@@ -174,7 +174,7 @@ pub(crate) struct MalformedSequence {
     pub(crate) length: usize,
 }
 
-/// The same, and the number of the sequence's kind.
+/// The index of the first malformed sequence, its length, 0 if there is none, and the number of its kind.
 #[repr(C)]
 pub(crate) struct Malformation {
     pub(crate) place: usize,

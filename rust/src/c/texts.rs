@@ -98,7 +98,8 @@ pub(crate) fn decode_to_str(state: &mut StreamDecoder, src: &[u8], dst: &mut str
     done
 }
 
-/// The same, up to a malformed sequence.
+/// Decodes into a prefix of a text, and sets the continuation bytes that have lost their first byte to zero. Stops after a
+/// malformed sequence, for which nothing is written, and returns its length.
 #[inline]
 pub(crate) fn decode_to_str_without_replacement(
     state: &mut StreamDecoder,
@@ -170,7 +171,8 @@ pub(crate) fn decode_to_string(state: &mut StreamDecoder, src: &[u8], dst: &mut 
     }
 }
 
-/// The same, up to a malformed sequence.
+/// Decodes into the spare capacity of a text. Stops after a malformed sequence, for which nothing is written, and returns its
+/// length.
 #[cfg(feature = "alloc")]
 #[inline]
 pub(crate) fn decode_to_string_without_replacement(
