@@ -6,7 +6,7 @@ use Rattle.std.proofs.str.Laws.{two}
 use Rattle.std.proofs.lemmas.Bool.{cases_lt}
 use Rattle.std.proofs.lemmas.Grind.{common_steps}
 use Rattle.std.proofs.lemmas.List.{append-nil, length-append, length-map, length-drop, length-take, length-take-le, get_or-drop, get_or-take, get_or_past, drop-drop, take_all, take_at, take_more, take_rest, drop_more, take-append-drop, map_more, map-append}
-use Rattle.std.proofs.lemmas.Str.{encodes-append, encode_ascii, encodes-IsAscii, chars-IsAscii, chars-append, IsUtf8-from_ascii}
+use Rattle.std.proofs.lemmas.Str.{encodes-append, encodes-IsAscii, chars-IsAscii, chars-append, IsUtf8-from_ascii}
 use Rattle.std.proofs.Math.Seq.{drop-append_seam, take-append_seam}
 use borrow.Rule.Slice.PartMut.{put_mid}
 use Rattle.encoding_kernels.proofs.Latin1ToUtf8Lemmas.{twice}

@@ -11,6 +11,7 @@ mod replacing;
 mod surrogates;
 mod text_destinations;
 mod to_utf16;
+mod utf8_to_latin1;
 
 pub use crate::utf_8::from_utf16::{convert_utf16_to_utf8, convert_utf16_to_utf8_partial};
 pub use bidi::{
@@ -29,7 +30,7 @@ pub use counted::{
 };
 pub use latin1::{
     convert_latin1_to_utf8, convert_latin1_to_utf8_partial, convert_latin1_to_utf16,
-    convert_utf8_to_latin1, convert_utf8_to_latin1_lossy, convert_utf16_to_latin1_lossy,
+    convert_utf16_to_latin1_lossy,
 };
 pub use lengths::{
     latin1_length_from_utf8, utf8_length_from_latin1, utf8_length_from_utf16,
@@ -44,3 +45,4 @@ pub use text_destinations::{
 pub use to_utf16::{
     convert_str_to_utf16, convert_utf8_to_utf16, convert_utf8_to_utf16_without_replacement,
 };
+pub use utf8_to_latin1::{convert_utf8_to_latin1, convert_utf8_to_latin1_lossy};

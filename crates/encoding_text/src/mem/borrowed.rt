@@ -8,7 +8,7 @@ ghost use Rattle.encoding_definitions.specs.Prefixes.{WritesPrefix};
 ghost use Rattle.encoding_definitions.specs.Latin1.{IsUtf8Latin1};
 
 use crate::ascii::prefixes::ascii_valid_up_to_by_length;
-use crate::mem::latin1;
+use crate::mem::{latin1, utf8_to_latin1};
 use std::alloc::{AllocError, Global};
 
 /// A text that is borrowed or owned.
@@ -122,5 +122,5 @@ fn write_latin1_of_utf8(text: &[u8], prefix: usize, dst: &mut [u8]) -> usize
     ensures { WritesPrefix dst.old dst.new result (chars text.now) }
 {
     dst[..prefix].copy_from_slice(&text[..prefix]);
-    prefix + latin1::convert_utf8_to_latin1_lossy(&text[prefix..], &mut dst[prefix..])
+    prefix + utf8_to_latin1::convert_utf8_to_latin1_lossy(&text[prefix..], &mut dst[prefix..])
 }

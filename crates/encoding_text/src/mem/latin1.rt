@@ -1,32 +1,22 @@
-//! Conversions from and to Latin1, in which each byte is the scalar value of its character. Infra Standard: isomorphic
-//! decode and encode. A conversion leaves the rest of `dst` unchanged.
+//! Conversions of Latin1 to UTF-8 and UTF-16, and of UTF-16 to Latin1. In Latin1 each byte is the scalar value of its character:
+//! Infra Standard, isomorphic decode and encode. A conversion leaves the rest of `dst` unchanged.
 
-ghost use Rattle.std.specs.Prelude.{◌≡◌, ◌+◌, ◌-◌, ◌*◌, ◌%◌, ◌<◌, ◌≤◌, ◌⊎◌, ℕ, List, [], ◌∷◌, take, drop, length, map, slice_index, encode_utf8, encode_utf8_all, IfSome, IfNone};
-ghost use Rattle.std.specs.Str.{IsAscii, chars};
+ghost use Rattle.std.specs.Prelude.{◌≡◌, ◌+◌, ◌-◌, ◌*◌, ◌%◌, ◌<◌, ◌≤◌, ℕ, List, [], ◌∷◌, take, length, map, slice_index, encode_utf8, encode_utf8_all, IfSome, IfNone};
+ghost use Rattle.std.specs.Str.{IsAscii};
 ghost use Rattle.encoding_definitions.specs.Prefixes.{IsLongestFittingPrefix, WritesPrefix};
-ghost use Rattle.encoding_definitions.specs.Latin1.{IsUtf8Latin1};
 
 use crate::ascii::prefixes::{BytesToBytes, copy_ascii_prefix, copy_blocks, write_short};
-use encoding_kernels::latin1::from_utf8::{
-    latin1_length_of_first, latin1_of, latin1_of_after, write_latin1_of_two,
-};
 use encoding_kernels::latin1::to_utf8::{
     utf8_length_of_first, write_few_latin1, write_latin1, write_latin1_block,
 };
-use encoding_kernels::simd::copy::{copy_prefix, pack_lower, unpack_part, write_first};
+use encoding_kernels::scalar::write_scalar;
+use encoding_kernels::simd::copy::{copy_prefix, pack_lower, unpack_part};
 use encoding_kernels::simd::scan::are_bytes_below;
 use encoding_kernels::simd::width::{ASCII_END, BLOCK, HALF_STRIDE, STRIDE, TWO_BLOCKS};
-use encoding_kernels::tuning::BLOCKS_BEFORE_RETEST;
 use std::simd::prelude::*;
 
 /// The length in UTF-8 of a character from U+0080 to U+00FF.
 const HIGH_LENGTH: usize = 2;
-
-/// How many bytes go from UTF-8 to Latin1 at once, after a test for ASCII.
-const GROUP: usize = BLOCKS_BEFORE_RETEST * STRIDE;
-
-/// The space that a group needs: the sixteen bytes after it are loaded and stored again.
-const GROUP_ROOM: usize = GROUP + STRIDE;
 
 /// Writes each byte as a UTF-16 code unit. `dst` is at least as long as `src`.
 pub fn convert_latin1_to_utf16(src: &[u8], dst: &mut [u16])
@@ -46,7 +36,7 @@ pub fn convert_latin1_to_utf16(src: &[u8], dst: &mut [u16])
 
 /// Copies the longest ASCII prefix that fits, and returns its length.
 #[inline(always)]
-fn copy_ascii(src: &[u8], dst: &mut [u8]) -> usize
+pub(crate) fn copy_ascii(src: &[u8], dst: &mut [u8]) -> usize
     ensures within { (result ≤ length src.now) × (result ≤ length dst.old) }
     ensures ascii { IsAscii (take result src.now) }
     ensures stops { result < length src.now → result < length dst.old
@@ -174,8 +164,11 @@ fn convert_few_latin1(src: &[u8], dst: &mut [u8]) -> (usize, usize)
         (encode_utf8_all (take result.0 src.now)) }
 {
     if src.len() < STRIDE {
-        if src.len() == 1 || dst.len() / 2 < src.len() {
+        if dst.len() / 2 < src.len() {
             return convert_latin1_turns(src, dst, 0, 0);
+        }
+        if src.len() == 1 {
+            return (1, write_scalar(u32::from(src[0]), dst));
         }
         if src.len() < HALF_STRIDE {
             return (src.len(), write_least_latin1(src, dst));
@@ -239,163 +232,6 @@ pub fn convert_latin1_to_utf8(src: &[u8], dst: &mut [u8]) -> usize
 {
     let (_, written) = convert_latin1_to_utf8_partial(src, dst);
     written
-}
-
-/// Returns how many of N bytes come before a character that is cut at their end. `last` is the last of them.
-#[inline(always)]
-fn whole_length<const N: usize>(last: u8) -> usize
-    requires { 0 < N }
-    ensures { ((result ≡ N - 1) × (0xC0 ≤ last)) ⊎ ((result ≡ N) × (last < 0xC0)) }
-{
-    if last < 0xC0 { N } else { N - 1 }
-}
-
-/// Writes the end of a text of which fewer than sixteen bytes are left, and returns the length of all, if `dst` has the
-/// space of a block. The last sixteen bytes are one block, whose first ones are written again.
-#[inline(always)]
-fn finish_utf8(src: &[u8], dst: &mut [u8], read: usize, written: usize) -> Option<usize>
-    requires left { (16 < length src.now) × (read ≤ length src.now) × (length src.now < read + 16) }
-    requires latin1 { IsUtf8Latin1 src.now }
-    requires rest { drop read src.now ≡ encode_utf8_all (drop written (chars src.now)) }
-    requires written { (written ≤ length dst.old)
-        × (take written dst.old ≡ take written (chars src.now)) }
-    ensures finished { IfSome result (λ n. WritesPrefix dst.old dst.new n (chars src.now)) }
-    ensures full { IfNone result (dst.new ≡ dst.old) }
-{
-    let last = src.len() - STRIDE;
-    let block = u8x16::from_slice(&src[last..]);
-    let at = written - latin1_length_of_first(block, read - last);
-    if dst.len() - at < STRIDE {
-        return None;
-    }
-    let (bytes, count) = latin1_of_after(u8x16::from_slice(&src[last - 1..]), block);
-    write_first(dst, at, bytes, count);
-    Some(at + count)
-}
-
-/// Writes the Latin1 of groups of 32 bytes and then of blocks of sixteen, if `dst` already has that of the first `from` bytes,
-/// which is `to` bytes long. Returns how many bytes were read and written in all. Ends before 64 bytes of ASCII.
-#[inline(always)]
-fn convert_utf8_blocks(src: &[u8], dst: &mut [u8], from: usize, to: usize) -> (usize, usize)
-    requires latin1 { IsUtf8Latin1 src.now }
-    requires within { from ≤ length src.now }
-    requires rest { drop from src.now ≡ encode_utf8_all (drop to (chars src.now)) }
-    requires written { (to ≤ length dst.old) × (take to dst.old ≡ take to (chars src.now)) }
-    ensures within { (from ≤ result.0) × (result.0 ≤ length src.now) }
-    ensures onward { to ≤ result.1 }
-    ensures rest { drop result.0 src.now ≡ encode_utf8_all (drop result.1 (chars src.now)) }
-    ensures written { WritesPrefix dst.old dst.new result.1 (take result.1 (chars src.now)) }
-{
-    let mut read = from;
-    let mut written = to;
-    while src.len() - read >= GROUP && dst.len() - written >= GROUP_ROOM {
-        if src.len() - read >= BLOCK && are_bytes_below::<BLOCK>(src, read, ASCII_END) {
-            return (read, written);
-        }
-        written += write_latin1_of_two(src, read, dst, written);
-        read += whole_length::<GROUP>(src[read + (GROUP - 1)]);
-    }
-    while src.len() - read >= STRIDE && dst.len() - written >= STRIDE {
-        let (bytes, count) = latin1_of(u8x16::from_slice(&src[read..]));
-        write_first(dst, written, bytes, count);
-        written += count;
-        read += whole_length::<STRIDE>(src[read + (STRIDE - 1)]);
-    }
-    (read, written)
-}
-
-/// Converts Latin1 text in UTF-8 as `convert_utf8_to_latin1` does, if `dst` already has the Latin1 of the first `from` bytes,
-/// which is `to` bytes long. Out of line, so that the ASCII before other text needs few registers.
-#[inline(never)]
-fn convert_utf8_turns(src: &[u8], dst: &mut [u8], from: usize, to: usize) -> usize
-    requires dst_length { length (chars src.now) ≤ length dst.old }
-    requires latin1 { IsUtf8Latin1 src.now }
-    requires within { from ≤ length src.now }
-    requires rest { drop from src.now ≡ encode_utf8_all (drop to (chars src.now)) }
-    requires written { (to ≤ length dst.old) × (take to dst.old ≡ take to (chars src.now)) }
-    ensures written { WritesPrefix dst.old dst.new result (chars src.now) }
-{
-    let mut read = from;
-    let mut written = to;
-    while read < src.len() {
-        let prefix = copy_ascii(&src[read..], &mut dst[written..]);
-        read += prefix;
-        written += prefix;
-        if read == src.len() {
-            break;
-        }
-        dst[written] = (src[read] << 6) | (src[read + 1] & 0x3F);
-        let (end, length) = convert_utf8_blocks(src, dst, read + 2, written + 1);
-        read = end;
-        written = length;
-        if src.len() > STRIDE && src.len() - read < STRIDE {
-            if let Some(length) = finish_utf8(src, dst, read, written) {
-                return length;
-            }
-        }
-    }
-    written
-}
-
-/// Converts Latin1 text in UTF-8 as `convert_utf8_to_latin1` does, by blocks from the first byte on, even if ASCII comes
-/// first. Turns follow only if these leave something. Out of line, so that ASCII alone needs few registers.
-#[inline(never)]
-fn convert_few_utf8(src: &[u8], dst: &mut [u8]) -> usize
-    requires dst_length { length (chars src.now) ≤ length dst.old }
-    requires latin1 { IsUtf8Latin1 src.now }
-    ensures written { WritesPrefix dst.old dst.new result (chars src.now) }
-{
-    let (read, written) = convert_utf8_blocks(src, dst, 0, 0);
-    if src.len() > STRIDE && read < src.len() && src.len() - read < STRIDE {
-        if let Some(length) = finish_utf8(src, dst, read, written) {
-            return length;
-        }
-    }
-    convert_utf8_turns(src, dst, read, written)
-}
-
-/// Converts more than 128 bytes of Latin1 text in UTF-8 as `convert_utf8_to_latin1` does. Turns follow the first ASCII prefix.
-#[inline(never)]
-fn convert_long_utf8(src: &[u8], dst: &mut [u8]) -> usize
-    requires src_length { 128 < length src.now }
-    requires dst_length { length (chars src.now) ≤ length dst.old }
-    requires latin1 { IsUtf8Latin1 src.now }
-    ensures written { WritesPrefix dst.old dst.new result (chars src.now) }
-{
-    let ascii = copy_blocks(src, dst);
-    if ascii == src.len() {
-        return ascii;
-    }
-    convert_utf8_turns(src, dst, ascii, ascii)
-}
-
-/// Writes the scalar value of each character of Latin1 text in UTF-8 as a byte, and returns how many bytes it wrote.
-/// `dst` has at least that length, which `latin1_length_from_utf8` returns.
-#[inline(always)]
-pub fn convert_utf8_to_latin1(src: &[u8], dst: &mut [u8]) -> usize
-    requires dst_length { length (chars src.now) ≤ length dst.old }
-    requires latin1 { IsUtf8Latin1 src.now }
-    ensures written { WritesPrefix dst.old dst.new result (chars src.now) }
-{
-    if src.len() > TWO_BLOCKS {
-        return convert_long_utf8(src, dst);
-    }
-    let text = BytesToBytes { src };
-    if src.len() <= dst.len() && write_short::<TWO_BLOCKS, _, _>(&text, dst) {
-        return src.len();
-    }
-    convert_few_utf8(src, dst)
-}
-
-/// Writes the scalar value of each character of Latin1 text in UTF-8 as a byte, and returns how many bytes it wrote.
-/// `dst` is at least as long as `src`.
-#[tactic(auto, using(encoding_kernels::proofs::LengthLemmas::chars_total))]
-pub fn convert_utf8_to_latin1_lossy(src: &[u8], dst: &mut [u8]) -> usize
-    requires dst_length { length src.now ≤ length dst.old }
-    requires latin1 { IsUtf8Latin1 src.now }
-    ensures written { WritesPrefix dst.old dst.new result (chars src.now) }
-{
-    convert_utf8_to_latin1(src, dst)
 }
 
 /// Writes the low eight bits of each UTF-16 code unit as a byte. `dst` is at least as long as `src`.

@@ -1,4 +1,4 @@
-use Rattle.std.proofs.Common.{◌+◌, length, drop, arith}
+use Rattle.std.proofs.Common.{◌+◌, drop, arith}
 use Rattle.std.proofs.lemmas.List.{take_rest, length-drop, length-take}
 use Rattle.encoding_text.proofs.CallLemmas.{malformed_some}
 use Rattle.encoding_text.proofs.ReplacingLemmas.{left_after, none_fits_character, none_fits_end, none_fits_replacement, parts_converted, parts_empty, parts_full, parts_none, parts_replaced, parts_reported, replaced_within, report_reads, room_after, written_within}

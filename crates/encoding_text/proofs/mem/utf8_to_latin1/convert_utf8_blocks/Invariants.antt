@@ -1,7 +1,7 @@
 use Rattle.std.proofs.Common.{◌≡◌, ◌-◌, ◌≤◌, length, take, drop, encode_utf8_all}
 use Rattle.std.specs.Str.{chars}
 use Rattle.encoding_definitions.specs.Prefixes.{WritesPrefix}
-use Rattle.encoding_text.proofs.mem.latin1.convert_utf8_blocks.Given as goal
+use Rattle.encoding_text.proofs.mem.utf8_to_latin1.convert_utf8_blocks.Given as goal
 
 abbrev pub invariant-loop-read : goal.invariant-loop-read
 invariant-loop-read l = record {

@@ -2,7 +2,7 @@ use Rattle.std.proofs.Common.{arith, refl, sym, take, length-take-le}
 use Rattle.std.specs.Str.{chars}
 use Rattle.encoding_definitions.proofs.Latin1Lemmas.{latin1_chars}
 use Rattle.encoding_text.proofs.Latin1ConversionLemmas.{begins_apart, block_on, left_apart, had_prefix}
-use Rattle.encoding_text.proofs.mem.latin1.convert_utf8_blocks.Goals as goal
+use Rattle.encoding_text.proofs.mem.utf8_to_latin1.convert_utf8_blocks.Goals as goal
 
 pub loop-read-init : goal.loop-read-init
 loop-read-init c = record {

@@ -6,7 +6,7 @@ use Rattle.std.proofs.lemmas.Str.{length-le-encodes}
 use Rattle.encoding_definitions.proofs.PrefixesLemmas.{WritesPrefix-length, WritesPrefix_over}
 use Rattle.encoding_definitions.proofs.Latin1Lemmas.{latin1_chars}
 use Rattle.encoding_text.proofs.Latin1ConversionLemmas.{ascii_on, two_after, character_on, had_prefix, prefix_had}
-use Rattle.encoding_text.proofs.mem.latin1.convert_utf8_turns.Goals as goal
+use Rattle.encoding_text.proofs.mem.utf8_to_latin1.convert_utf8_turns.Goals as goal
 
 pub loop-read-init : goal.loop-read-init
 loop-read-init c = record { within = c.requires.within; rest = c.requires.rest; written = had_prefix _ _ _ c.requires.written.0 c.requires.written.1 }

@@ -2,7 +2,7 @@ use Rattle.std.proofs.Common.{◌-◌, ap, arith}
 use Rattle.std.specs.Str.{chars}
 use Rattle.encoding_definitions.proofs.Latin1Lemmas.{latin1_chars}
 use Rattle.encoding_text.proofs.Latin1TailLemmas.{byte_before, last_before, last_apart, last_written, first_counts, written_within}
-use Rattle.encoding_text.proofs.mem.latin1.finish_utf8.Goals as goal
+use Rattle.encoding_text.proofs.mem.utf8_to_latin1.finish_utf8.Goals as goal
 
 pub overflow_sub-at : goal.overflow_sub-at
 overflow_sub-at c =

@@ -5,7 +5,7 @@ use Rattle.std.proofs.lemmas.Str.{chars-IsAscii}
 use Rattle.encoding_definitions.proofs.Latin1Lemmas.{latin1_chars}
 use Rattle.encoding_definitions.proofs.PrefixesLemmas.{WritesPrefix-length, WritesPrefix-same, WritesPrefix_over}
 use Rattle.encoding_text.proofs.Latin1ConversionLemmas.{ascii_start, ascii_taken, prefix_had}
-use Rattle.encoding_text.proofs.mem.latin1.convert_long_utf8.Goals as goal
+use Rattle.encoding_text.proofs.mem.utf8_to_latin1.convert_long_utf8.Goals as goal
 
 pub returns-then-ascii-src : goal.returns-then-ascii-src
 returns-then-ascii-src c =

@@ -2,7 +2,7 @@ use Rattle.std.proofs.Common.{refl, sym}
 use Rattle.std.proofs.lemmas.Str.{chars-IsAscii}
 use Rattle.encoding_definitions.proofs.PrefixesLemmas.{WritesPrefix-same}
 use Rattle.encoding_kernels.proofs.ScanLemmas.{ascii_below}
-use Rattle.encoding_text.proofs.mem.latin1.convert_utf8_to_latin1.Goals as goal
+use Rattle.encoding_text.proofs.mem.utf8_to_latin1.convert_utf8_to_latin1.Goals as goal
 
 pub returns-then-write_short : goal.returns-then-write_short
 returns-then-write_short c =
