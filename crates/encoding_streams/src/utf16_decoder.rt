@@ -28,8 +28,15 @@ const SHORT_BLOCK: usize = 64;
 /// How many are decoded at a time from a longer source of no more than these.
 const MIDDLE_BLOCK: usize = 256;
 
-/// How many are decoded at a time from any other source.
+/// How many are decoded at a time from a source of less than `LONG_SOURCE` bytes.
 const LONG_BLOCK: usize = 1024;
+
+/// How many are decoded at a time from any other source. The end of each block takes time, since its last characters are
+/// converted one by one.
+const LONGEST_BLOCK: usize = 4096;
+
+/// How long a source is that pays for clearing an array of `LONGEST_BLOCK` code units.
+const LONG_SOURCE: usize = 16_384;
 
 /// A streaming decoder of UTF-16LE or UTF-16BE, whose input may be split at any byte. Its pending bytes, which it keeps
 /// between calls, are none or the start of a character: a high surrogate, the first byte of a code unit, or both. In
@@ -249,7 +256,10 @@ fn convert_units<U: CodeUnit>(order: ByteOrder, src: &[u8], dst: &mut [U]) -> (u
     if src.len() <= 2 * MIDDLE_BLOCK {
         return convert_blocks::<U, MIDDLE_BLOCK>(order, src, dst);
     }
-    convert_blocks::<U, LONG_BLOCK>(order, src, dst)
+    if src.len() < LONG_SOURCE {
+        return convert_blocks::<U, LONG_BLOCK>(order, src, dst);
+    }
+    convert_blocks::<U, LONGEST_BLOCK>(order, src, dst)
 }
 
 /// Converts whole characters from the start of `src`, `N` code units at a time, up to the first that doesn't fit, or
@@ -261,7 +271,7 @@ fn convert_blocks<U: CodeUnit, const N: usize>(
     src: &[u8],
     dst: &mut [U],
 ) -> (usize, usize, bool)
-    requires block { N ≤ 1024 }
+    requires block { N ≤ 4096 }
     ensures characters { Advances order U.encode [] src.now dst.old dst.new result.0 result.1 [] }
     ensures full { IsTrue result.2 → BeginsTooLong order U.encode (drop result.0 src.now)
         (length dst.old - result.1) }
