@@ -1,5 +1,5 @@
 //! The decoders of one encoding each, as one.
-ghost use Rattle.std.specs.Prelude.{◌≡◌, ℕ, ◌+◌, ◌<◌, ◌≤◌, [], List, length};
+ghost use Rattle.std.specs.Prelude.{◌≡◌, ◌↔◌, ℕ, ◌+◌, ◌<◌, ◌≤◌, [], List, length, IsTrue};
 ghost use Rattle.encoding_definitions.specs.Prefixes.{WritesPrefix};
 ghost use Rattle.encoding_streams.specs.Decoders.{IsReportingCall, SufficesReporting, SufficesBetweenReports, decoding, max_utf16_length_in, max_utf8_length_in, max_utf8_length_with_replacement_in};
 ghost use Rattle.encoding_streams.specs.declared.encoding.Encoding.{Encoding};
@@ -44,7 +44,7 @@ fn put<U: Copy>(dst: &mut [U], units: &[U])
 
 impl Inner {
     /// Returns a decoder with nothing pending.
-    #[inline]
+    #[inline(always)]
     pub(crate) fn new(encoding: Encoding) -> Inner
         ensures { state_of result ≡ decoding encoding [] }
     {
@@ -52,6 +52,17 @@ impl Inner {
             Encoding::Utf8 => Inner::OfUtf8(Utf8Decoder::new_inner()),
             Encoding::Utf16Le => Inner::OfUtf16(Utf16Decoder::new(ByteOrder::LittleEndian)),
             Encoding::Utf16Be => Inner::OfUtf16(Utf16Decoder::new(ByteOrder::BigEndian)),
+        }
+    }
+
+    /// Returns whether nothing is pending.
+    #[inline(always)]
+    pub(crate) fn in_neutral_state(&self) -> bool
+        ensures { IsTrue result ↔ ((state_of self.now).pending ≡ []) }
+    {
+        match self {
+            Inner::OfUtf8(decoder) => decoder.in_neutral_state(),
+            Inner::OfUtf16(decoder) => decoder.in_neutral_state(),
         }
     }
 
@@ -127,7 +138,7 @@ impl Output for u16 {
         dst[0] = 0xFFFD;
     }
 
-    #[inline]
+    #[inline(always)]
     fn decode(
         decoder: &mut Inner,
         src: &[u8],
@@ -157,7 +168,7 @@ impl Output for u8 {
         put(dst, &[0xEF, 0xBF, 0xBD]);
     }
 
-    #[inline]
+    #[inline(always)]
     fn decode(
         decoder: &mut Inner,
         src: &[u8],

@@ -5,6 +5,7 @@ ghost use Rattle.encoding_streams.specs.Decoders.{decoding};
 ghost use Rattle.encoding_streams.specs.DecoderSteps.{IsSniffed, IsStop, LeavesFree, Reports, reported_with, shown, state_of};
 
 use super::inner::{Inner, Output};
+use super::is_utf8;
 use crate::encoding::{BomHandling, Encoding, begins_mark, found_mark, mark_length};
 use crate::utf16_decoder::pending::Pending;
 use encoding_text::decoder::DecoderResult;
@@ -147,6 +148,31 @@ fn decode_neutral<U: Output>(
     (result, read, written)
 }
 
+/// Decodes `src` as UTF-8 with a decoder that has nothing pending. Most calls do this, and leave nothing pending.
+#[inline(always)]
+fn decode_neutral_utf8<U: Output>(
+    state: &mut State,
+    src: &[u8],
+    dst: &mut [U],
+    last: bool,
+) -> (DecoderResult, usize, usize)
+    requires neutral { state.old.pending ≡ [] }
+    requires utf8 { state.old.encoding ≡ Encoding.Utf8 }
+    ensures kept { (state.new.bom ≡ state.old.bom) × (state.new.encoding ≡ state.old.encoding) }
+    ensures reports { Reports U.encode U.need U.query U.replacing
+        (decoding state.old.encoding state.old.pending) src.now dst.old dst.new last
+        result.0 result.1 result.2 (decoding state.old.encoding state.new.pending) }
+    ensures free { LeavesFree U.need state.old.pending src.now (length dst.old) result.0 result.2 }
+{
+    let mut inner = Inner::new(Encoding::Utf8);
+    let (result, read, written) = U::decode(&mut inner, src, dst, last);
+    if inner.in_neutral_state() {
+        return (result, read, written);
+    }
+    state.pending = kept(&inner, &[], &src[..read]);
+    (result, read, written)
+}
+
 /// Decodes the pending bytes, and then `src`.
 #[inline(never)]
 fn decode_pending<U: Output>(
@@ -201,10 +227,9 @@ fn decode_decided<U: Output>(
     decode_pending::<U>(state, src, dst, last)
 }
 
-/// Decodes, and reports malformed sequences. Returns what ended the call, how many bytes of `src` it read and how many
-/// code units it wrote.
+/// Decodes as `decode` does, with any encoding, any marks and any pending bytes.
 #[inline(always)]
-pub(crate) fn decode<U: Output>(
+fn decode_any<U: Output>(
     state: &mut State,
     src: &[u8],
     dst: &mut [U],
@@ -223,4 +248,35 @@ pub(crate) fn decode<U: Output>(
     }
     let (result, read, written) = decode_decided::<U>(state, &src[sniffed..], dst, last);
     (result, sniffed + read, written)
+}
+
+/// Returns whether it is a decoder of UTF-8 that has nothing pending and looks for no mark.
+#[inline(always)]
+fn is_plain(state: &State) -> bool
+    ensures off { result ≡ true → state.now.bom ≡ BomHandling.Off }
+    ensures utf8 { result ≡ true → state.now.encoding ≡ Encoding.Utf8 }
+    ensures neutral { result ≡ true → state.now.pending ≡ [] }
+{
+    is_off(state.bom) && is_utf8(state.encoding) && state.pending.is_empty()
+}
+
+/// Decodes, and reports malformed sequences. Returns what ended the call, how many bytes of `src` it read and how many
+/// code units it wrote.
+#[inline(always)]
+pub(crate) fn decode<U: Output>(
+    state: &mut State,
+    src: &[u8],
+    dst: &mut [U],
+    last: bool,
+) -> (DecoderResult, usize, usize)
+    requires undecided { IsUndecided state.old.bom state.old.encoding state.old.pending }
+    ensures undecided { IsUndecided state.new.bom state.new.encoding state.new.pending }
+    ensures reports { Reports U.encode U.need U.query U.replacing (shown state.old) src.now
+        dst.old dst.new last result.0 result.1 result.2 (shown state.new) }
+    ensures free { LeavesFree U.need state.old.pending src.now (length dst.old) result.0 result.2 }
+{
+    if is_plain(state) {
+        return decode_neutral_utf8::<U>(state, src, dst, last);
+    }
+    decode_any::<U>(state, src, dst, last)
 }

@@ -1,0 +1,26 @@
+use Rattle.encoding_streams.proofs.ReportedCallLemmas.{inner_reports}
+use Rattle.encoding_streams.proofs.decoder.state.decode_neutral_utf8.Goals as goal
+
+pub returns-then-in_neutral_state-clause-reports : goal.returns-then-in_neutral_state-clause-reports
+returns-then-in_neutral_state-clause-reports g c =
+    let made = c.decode-result in
+    let call = inner_reports g.U.CodeUnit.encode g.U.CodeUnit.need g.U.Output.query g.U.Output.replacing _ _ c.new-inner.result made.new.decoder _ _ _ _ _ _ _
+    c.new-inner.ensures (record {
+      call = made.ensures.call;
+      suffices = made.ensures.suffices;
+      between_reports = made.ensures.suffices_between_reports;
+      replaced = made.ensures.suffices_replacing;
+    }) in
+    rw (c.requires.utf8, c.requires.neutral) (rw (c.in_neutral_state.ensures.0 c.if-in_neutral_state.true) at call)
+
+pub returns-clause-reports : goal.returns-clause-reports
+returns-clause-reports g c =
+    let made = c.decode-result in
+    let call = inner_reports g.U.CodeUnit.encode g.U.CodeUnit.need g.U.Output.query g.U.Output.replacing _ _ c.new-inner.result made.new.decoder _ _ _ _ _ _ _
+    c.new-inner.ensures (record {
+      call = made.ensures.call;
+      suffices = made.ensures.suffices;
+      between_reports = made.ensures.suffices_between_reports;
+      replaced = made.ensures.suffices_replacing;
+    }) in
+    rw (c.requires.utf8, c.requires.neutral, c.kept-state.ensures) call
