@@ -80,6 +80,11 @@ pending_again src pending returned read q call = said returned (same_piece [] sr
     said (piece.Malformed k) s = absurd s
     said piece.InputEmpty s = refl
 
+-- as many bytes as end both
+pub ends_within : (pending read q : List ℕ) (count : ℕ) → EndsWith (pending ++ read) q → count ≡ length q → count ≤ length pending + length read
+ends_within pending read q count (before, whole) is =
+    omega (arith, is, ap length whole, length-append before q, length-append pending read)
+
 -- the unit left pending is the last one of the pending surrogate before and the source
 last_unit : (surrogate src prefix left_open : List ℕ) (before unit : ℕ) → surrogate ++ src ≡ prefix ++ left_open → IsPendingSurrogate left_open
     → (0 < length surrogate → surrogate ≡ before ∷ [])

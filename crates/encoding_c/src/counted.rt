@@ -46,8 +46,9 @@ pub extern "C" fn encoding_text_mem_convert_utf16_to_utf8_partial_with_count(
     }
 }
 
-/// The same into a text. The continuation bytes directly after what is written become zero. Returns `INVALID_ARGUMENT`
-/// for the first two counts if `dst` is ill-formed.
+/// Converts the longest prefix of whole characters that fits from UTF-16 into a text, and counts the unpaired surrogates in
+/// it: U+FFFD is written for each. The continuation bytes directly after what is written become zero. Returns
+/// `INVALID_ARGUMENT` for the first two counts if `dst` is ill-formed.
 #[unsafe(no_mangle)]
 pub extern "C" fn encoding_text_mem_convert_utf16_to_str_partial_with_count(
     src: &[u16],

@@ -39,7 +39,7 @@ pub struct EncodingPiece {
 }
 
 /// The most bytes that may be pending.
-const MAX_PENDING: u8 = 3;
+pub(crate) const MAX_PENDING: u8 = 3;
 
 /// Returns whether all of the source was read.
 fn is_all_read(piece: &Piece) -> bool

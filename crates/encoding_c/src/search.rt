@@ -8,6 +8,7 @@ ghost use Rattle.encoding_runs.specs.declared.search.StreamMalformation.{StreamM
 ghost use Rattle.encoding_c.specs.declared.search.EncodingStreamMalformation.{EncodingStreamMalformation};
 ghost use Rattle.encoding_runs.specs.declared.search.SearchedBlock.{SearchedBlock};
 
+use crate::decoder::MAX_PENDING;
 use crate::malformed::number;
 use crate::status::INVALID_ARGUMENT;
 use encoding_runs::malformed::Malformation;
@@ -42,9 +43,6 @@ pub struct EncodingSearchBlockResult {
     pub found: usize,
     pub finished: bool,
 }
-
-/// The most bytes that may be pending.
-const MAX_PENDING: u8 = 3;
 
 /// What an array has before a call.
 const NONE: StreamMalformation = StreamMalformation {

@@ -9,6 +9,7 @@ ghost use Rattle.encoding_streams.specs.Decoders.{DecoderState, IsReplacingCall,
 ghost use Rattle.encoding_streams.specs.Marks.{found_mark, mark};
 ghost use Rattle.encoding_c.specs.DecoderStates.{IsEncodingNumber, IsBomNumber, IsCoderCodeOf, ReplacingCall, ReportingCall, RepresentsDecoder};
 
+use crate::decoder::MAX_PENDING;
 use crate::status::INVALID_ARGUMENT;
 use crate::utf16_decoder::{EncodingDecoderResult, decoded};
 use encoding_streams::decoder::Decoder;
@@ -43,9 +44,6 @@ pub struct EncodingBom {
     pub length: usize,
     pub encoding: u8,
 }
-
-/// The most bytes that may be pending.
-const MAX_PENDING: u8 = 3;
 
 const UTF_8: u8 = 0;
 

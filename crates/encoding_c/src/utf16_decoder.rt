@@ -9,7 +9,7 @@ ghost use Rattle.encoding_streams.specs.Utf16Parts.{IsPendingUtf16};
 ghost use Rattle.encoding_streams.specs.Utf16Decoding.{DecodeUtf16StepInto, SufficesReplacingUtf16, Utf16State, max_utf16_length_from_utf16, max_utf8_length_from_utf16};
 ghost use Rattle.encoding_c.specs.States.{EndsWith, IsByteOrder, IsUtf16CodeOf, RepresentsUtf16, Utf16Call};
 
-use crate::decoder::{Ended, last_bytes, numbers};
+use crate::decoder::{Ended, MAX_PENDING, last_bytes, numbers};
 use encoding_streams::utf16_decoder::Utf16Decoder;
 use encoding_text::decoder::DecoderResult;
 use encoding_text::utf_16::ByteOrder;
@@ -36,9 +36,6 @@ pub struct EncodingDecoderResult {
     pub malformed_length: u8,
     pub read_after: u8,
 }
-
-/// The most bytes that may be pending.
-const MAX_PENDING: u8 = 3;
 
 /// Returns the byte order for a number.
 fn byte_order(big_endian: u8) -> ByteOrder

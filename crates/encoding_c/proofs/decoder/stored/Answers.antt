@@ -1,6 +1,7 @@
-use Rattle.std.proofs.Common.{ap, arith, length, sym, subst}
-use Rattle.std.proofs.lemmas.List.{length-append, take_all}
+use Rattle.std.proofs.Common.{arith, sym, subst}
+use Rattle.std.proofs.lemmas.List.{take_all}
 use Rattle.encoding_definitions.specs.Sequence.{IsPending}
+use Rattle.encoding_c.proofs.StateLemmas.{ends_within}
 use Rattle.encoding_c.proofs.decoder.stored.Goals as goal
 
 pub returns-then-count-eq0 : goal.returns-then-count-eq0
@@ -10,14 +11,7 @@ returns-then-count-eq0 c =
 
 pub last_bytes-requires-clause-within : goal.last_bytes-requires-clause-within
 last_bytes-requires-clause-within c =
-    let e = c.requires.ends in
-    omega (
-      arith,
-      ap length e.1,
-      length-append e.0 c.args.decoder.now,
-      length-append c.args.pending.now c.args.read.now,
-      c.pending_count-count.ensures.pending_length,
-    )
+    ends_within c.args.pending.now c.args.read.now c.args.decoder.now _ c.requires.ends c.pending_count-count.ensures.pending_length
 
 pub returns : goal.returns
 returns c =

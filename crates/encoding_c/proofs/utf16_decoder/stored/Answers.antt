@@ -1,18 +1,11 @@
-use Rattle.std.proofs.Common.{length, arith, ap, sym, subst}
-use Rattle.std.proofs.lemmas.List.{length-append}
+use Rattle.std.proofs.Common.{sym, subst}
 use Rattle.encoding_streams.specs.Utf16Parts.{IsPendingUtf16}
+use Rattle.encoding_c.proofs.StateLemmas.{ends_within}
 use Rattle.encoding_c.proofs.utf16_decoder.stored.Goals as goal
 
 pub last_bytes-requires-clause-within : goal.last_bytes-requires-clause-within
 last_bytes-requires-clause-within c =
-    let e = c.requires.ends in
-    omega (
-      arith,
-      ap length e.1,
-      length-append e.0 c.args.decoder.now.pending,
-      length-append c.args.pending.now c.args.read.now,
-      c.pending_count-count.ensures.pending_length,
-    )
+    ends_within c.args.pending.now c.args.read.now c.args.decoder.now.pending _ c.requires.ends c.pending_count-count.ensures.pending_length
 
 pub returns : goal.returns
 returns c =
