@@ -5,7 +5,7 @@ use Rattle.std.proofs.str.Laws.{one, two, three, four}
 use lib.Utf8.{next}
 use Rattle.std.proofs.lemmas.Bool.{and_parts, cases_lt, cases_eq}
 use Rattle.std.proofs.lemmas.Bool.Decides.{nat_tests}
-use Rattle.std.proofs.lemmas.List.{append-nil, length-map, take-append-drop, drop_more}
+use Rattle.std.proofs.lemmas.List.{append-nil, length-map, take-append-drop, drop-drop, drop_more}
 use Rattle.std.proofs.lemmas.Str.{chars-encodes}
 use Rattle.encoding_runs.specs.Parts.{Part, Character, ArePartsOf}
 use Rattle.encoding_definitions.proofs.DecompositionLemmas.{StartsWith-characters, same_parts}
@@ -20,6 +20,15 @@ feed_other b bs n = let no : nat_eq b 10 ≡ false = grind (arith, nat_tests) in
 feeds-append : (xs ys : List ℕ) → line_feeds (xs ++ ys) ≡ line_feeds xs + line_feeds ys
 feeds-append [] ys = omega arith
 feeds-append (x ∷ xs) ys = omega (arith, feeds-append xs ys)
+
+-- a step over `n` items of the rest
+pub feeds_next : (at n count : ℕ) (xs : List ℕ) → count + line_feeds (drop at xs) ≡ line_feeds xs
+    → count + line_feeds (take n (drop at xs)) + line_feeds (drop (at + n) xs) ≡ line_feeds xs
+feeds_next at n count xs counted =
+    let parts : line_feeds (drop at xs) ≡ line_feeds (take n (drop at xs)) + line_feeds (drop n (drop at xs)) =
+    ap line_feeds (sym (take-append-drop n (drop at xs))) ∙ feeds-append (take n (drop at xs)) (drop n (drop at xs)) in
+    let rest : line_feeds (drop n (drop at xs)) ≡ line_feeds (drop (at + n) xs) = ap line_feeds (drop-drop n at xs) in
+    omega (arith, counted, parts, rest)
 
 -- ---- places
 pub place_after-append : (place : ℕ × ℕ) (ps qs : List Part) → place_after place (ps ++ qs) ≡ place_after (place_after place ps) qs

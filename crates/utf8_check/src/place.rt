@@ -20,15 +20,33 @@ pub(crate) const START: Place = Place { line: 1, column: 1 };
 
 const LINE_FEED: u8 = 0xA;
 
+/// The most bytes whose line feeds are counted in a byte: a whole number of vectors.
+const SPAN: usize = 128;
+
+/// Counts the line feeds of at most `SPAN` bytes. The count is a byte, so a lane of a vector has room for it.
+#[inline(always)]
+fn count_in_span(bytes: &[u8]) -> u8
+    requires { length bytes.now ≤ 128 }
+    ensures count { result ≡ line_feeds bytes.now }
+    ensures few { result ≤ length bytes.now }
+{
+    let mut count: u8 = 0;
+    for byte in bytes {
+        count += u8::from(*byte == LINE_FEED);
+    }
+    count
+}
+
 /// Counts the line feeds.
 fn count_line_feeds(bytes: &[u8]) -> usize
     ensures { result ≡ line_feeds bytes.now }
 {
     let mut count = 0;
-    for byte in bytes {
-        if *byte == LINE_FEED {
-            count += 1;
-        }
+    let mut at = 0;
+    while at < bytes.len() {
+        let span = SPAN.min(bytes.len() - at);
+        count += usize::from(count_in_span(&bytes[at..at + span]));
+        at += span;
     }
     count
 }
