@@ -8,12 +8,20 @@ use Rattle.std.specs.Simd.Lanes.{chunk, put_chunk, zip2, sel_l, top, Each1, pick
 use mir.Syntax.{Width}
 use mir.Val.{hbits}
 use Rattle.encoding_kernels.specs.Scans.{HasLanes}
+use Rattle.encoding_definitions.specs.Prefixes.{WritesPrefix}
+use Rattle.encoding_definitions.proofs.PrefixesLemmas.{WritesPrefix-same}
 use Rattle.encoding_kernels.proofs.VectorLemmas.{put_prefix, put_is, HasLanes-itself, HasLanes-numbers, HasLanes-splat, compared, put_firsts, HasLanes-zip2, HasLanes_same, HasLanes-swizzle, swizzle_ok}
 use Rattle.encoding_kernels.proofs.MaskLemmas.{chosen_by, tests_of}
 use Rattle.std.proofs.lemmas.Grind.{same_number_lists}
 use Rattle.std.proofs.lemmas.Nat.{and_mask, and_le_r}
 use Rattle.std.proofs.lemmas.Bool.{cases_lt, cond-true, cond-false, lt-ltb, le-ltb}
 use Rattle.std.proofs.lemmas.Bool.Decides.{nat_tests}
+
+-- a prefix of the whole length is the whole list
+pub WritesPrefix_whole : {A : Type 0} (old new xs : List A) (n m : ℕ) → WritesPrefix old new n (take n xs) → n ≡ length xs → m ≡ length xs
+    → WritesPrefix old new m xs
+WritesPrefix_whole old new xs n m written all same =
+    WritesPrefix-same old new n m (take n xs) xs written (all ∙ sym same) (ap (λ k. take k xs) all ∙ take_all (length xs) xs (omega arith))
 
 -- the first `count` lanes of one vector, followed by what the list has after them
 pub firsts_over : {n : ℕ} (w : Width) (at count : ℕ) (xs lanes : List ℕ) → at + n ≤ length xs → length lanes ≡ n

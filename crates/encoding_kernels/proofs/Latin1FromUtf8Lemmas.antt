@@ -5,18 +5,17 @@ use Rattle.std.specs.Prelude.{nat_lt, nat_le}
 use Rattle.std.proofs.str.Laws.{two}
 use Rattle.std.proofs.lemmas.Bool.{cases_lt}
 use Rattle.std.proofs.lemmas.Bool.Decides.{nat_tests}
-use Rattle.std.proofs.lemmas.List.{length-append, get_or-append_right, get_or-drop, get_or-map, get_or_past, length-map, length-take-le, same_lists}
-use Rattle.std.proofs.lemmas.Simd.{ones-mask_l_cons, get_or-chunk, length-chunk, Each1-from_get_or, Each1-get_or, pick_l-range_with_len, mask_l-mod, mask_l-lt}
+use Rattle.std.proofs.lemmas.List.{length-append, get_or-append_right, get_or-map, get_or_past, length-map, length-take-le, same_lists}
+use Rattle.std.proofs.lemmas.Simd.{ones-mask_l_cons, get_or-chunk, length-chunk, Each1-from_get_or, Each1-get_or, mask_l-mod, mask_l-lt}
 use Rattle.std.proofs.lemmas.Str.{encode_ascii}
 use Rattle.std.specs.Int.RustNames.{count_ones}
-use Rattle.std.specs.Simd.Lanes.{chunk, mask_l, top, zip2, sel_l, pick_l, Each1}
+use Rattle.std.specs.Simd.Lanes.{chunk, mask_l, top, zip2, sel_l, Each1}
 use lib.Dec.{leb}
 use Rattle.encoding_definitions.specs.Latin1.{IsLatin1}
 use Rattle.encoding_kernels.specs.KeptBytes.{latin1_ended, all_latin1_ended, both_end, kept_places, EndsPair}
 use Rattle.encoding_kernels.proofs.UniformLemmas.{kept_step, ones-none, mask_from}
 use Rattle.encoding_definitions.proofs.Latin1Lemmas.{IsLatin1-rest}
 use Rattle.std.proofs.lemmas.Nat.{and_mask}
-use Rattle.std.specs.List.{range_with_len}
 use Rattle.encoding_kernels.specs.Scans.{HasLanes}
 use Rattle.encoding_kernels.proofs.MaskPartLemmas.{first_mask}
 use Rattle.encoding_kernels.proofs.VectorLemmas.{HasLanes-itself, HasLanes-splat, HasLanes-zip2, HasLanes_same, compared, top_compared, mask_of, bytes_of, bytes_lanes, wide, wide_l}
@@ -214,16 +213,6 @@ pair_ends p a b A B either =
     grind (arith, nat_tests, low, end_small p a A, end_small a b B, either, and_mask a 6, and_mask b 6)
 
 -- ---- one vector
-abbrev before_l : List ℕ → List ℕ
-before_l bs = pick_l 0 (replicate 16 0 ++ bs) (range_with_len 15 16)
-
--- the byte before each, as a shuffle with zeros yields it
-pub before_lanes : (bs : List ℕ) → length bs ≡ 16 → (k : ℕ) → k < 16 → get_or (before_l bs) k 0 ≡ get_or (0 ∷ bs) k 0
-before_lanes bs long k l =
-    let all = replicate 16 0 ++ bs in
-    let room : 15 + 16 ≤ length all = omega (arith, length-append (replicate 16 0) bs) in
-    ap (λ xs. get_or xs k 0) (pick_l-range_with_len 0 all 15 16 room) ∙ get_or-chunk 15 16 all k 0 l ∙ sym (get_or-drop 15 all k 0)
-
 module _ (bs : List ℕ) (long : length bs ≡ 16) (fits : Each1 (Fits w8) bs) where
   byte : (k : ℕ) → k < 16 → get_or bs k 0 < 256
   byte k l = (Each1-get_or (Fits w8) bs k 0 (omega arith) fits).fits

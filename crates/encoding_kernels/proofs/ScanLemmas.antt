@@ -3,10 +3,10 @@
 use Rattle.std.proofs.Common.{◌≡◌, ℕ, ◌+◌, ◌<◌, ◌≤◌, inl, inr, List, length, ◌++◌, take, drop, take-add, length-take-le, length-drop, set, slice_index, sym, arith, subst, zero, suc, ◌*◌, ◌/◌, drop-drop, get_or, refl, ap, ◌∙◌, ◌-◌, Some, [], ◌∷◌, min, None, Option, length-take}
 use Rattle.std.specs.Str.{IsAscii}
 use Rattle.std.proofs.lemmas.Bool.{cases_lt}
-use Rattle.std.proofs.lemmas.List.{get_or-take, get_or_past, length-take, take_more, get_or-drop, take_all, take-take, drop_more, set_split}
+use Rattle.std.proofs.lemmas.List.{get_or-take, get_or_past, length-take, take_more, get_or-drop, take_all, take-take}
 use Rattle.encoding_definitions.specs.Prefixes.{IsLongestPrefix, WritesPrefix}
 use Rattle.encoding_kernels.specs.Scans.{BelowUpTo, AllBelow, IsRunBelow, BelowBetween}
-use Rattle.encoding_definitions.proofs.PrefixesLemmas.{WritesPrefix_push, WritesPrefix_put, WritesPrefix-nil, WritesPrefix-length, WritesPrefix-same, WritesPrefix_again}
+use Rattle.encoding_definitions.proofs.PrefixesLemmas.{WritesPrefix_push, WritesPrefix_put, WritesPrefix-nil, WritesPrefix-length}
 use Rattle.std.proofs.Math.Nat.{div-mul-le_self, mul-le-mul_right}
 use Rattle.std.specs.Simd.{first_chunks}
 use Rattle.std.proofs.lemmas.Option.{get_or_from_slice_get, slice_get_within, slice_get-get_or}
@@ -72,15 +72,6 @@ pub WritesPrefix_block : {A : Type 0} (old new after xs : List A) (n m : ℕ) �
 WritesPrefix_block old new after xs n m w l k put =
     let short : length (take m (drop n xs)) ≡ m = length-take-le m (drop n xs) (omega (arith, length-drop n xs)) in
     rw (take-add n m xs) (WritesPrefix_put old new after n m (take n xs) (take m (drop n xs)) w (sym short) k put)
-
--- a unit is copied, which may have been copied before
-pub WritesPrefix_one : (old new xs : List ℕ) (n at : ℕ) → WritesPrefix old new n (take n xs) → at ≤ n → n ≤ at + 1 → at < length xs → at < length new
-    → WritesPrefix old (set new at (slice_index xs at)) (at + 1) (take (at + 1) xs)
-WritesPrefix_one old new xs n at w l m within room =
-    let next : suc at ≡ at + 1 = omega arith in
-    let put = set_split new at (slice_index xs at) room ∙ ap (λ k. take at new ++ (slice_index xs at ∷ drop k new)) next
-    ∙ ap (λ ys. take at new ++ (take 1 ys ++ drop (at + 1) new)) (sym (drop_more xs at 0 within)) in
-    WritesPrefix_again old new _ xs n at 1 w l m (omega arith) (omega arith) put
 
 -- stride i of a list
 pub numbered : {X : Type 0} (n k : ℕ) (xs : List X) (i : ℕ) (d : List X) → i < k → get_or (first_chunks n k xs) i d ≡ take n (drop (i * n) xs)

@@ -2,7 +2,6 @@
 -- more.
 use Rattle.std.proofs.Common.{◌≡◌, ℕ, zero, suc, ◌+◌, ◌-◌, ◌^◌, ◌<◌, ◌≤◌, ◌↔◌, IsTrue, inl, inr, Bool, true, false, not, cond, eqb, bit_and, bit_xor, List, [], ◌∷◌, ◌++◌, length, drop, map, replicate, slice_index, Fits, w8, w16, refl, sym, ap, ◌∙◌, arith, subst}
 use Rattle.std.specs.Simd.Lanes.{Each1, sel_l, top, zip2}
-use Rattle.std.specs.Char.{IsScalar}
 use Rattle.std.specs.List.{flat_map}
 use Rattle.std.proofs.lemmas.Bool.{cases_lt}
 use Rattle.std.proofs.lemmas.List.{get_or-drop}

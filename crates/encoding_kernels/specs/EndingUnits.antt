@@ -3,7 +3,6 @@ use Rattle.std.specs.Prelude.{◌≡◌, ℕ, zero, suc, false, ◌+◌, ◌*◌
 use Rattle.std.specs.Str.{all_scalars, IsUtf8, chars}
 use Rattle.std.specs.Char.Escape.{encode_utf16}
 use Rattle.std.specs.List.{flat_map}
-use Rattle.encoding_kernels.specs.Scans.{BelowBetween}
 
 -- ---- lanes of a vector that are kept
 -- the elements whose mark is set
@@ -81,10 +80,6 @@ pub record StoresUnits (src old new : List ℕ) (read written reach : ℕ) : Typ
   pub few : written ≤ read
   pub same_length : length new ≡ length old
   pub following : drop reach new ≡ drop reach old
-
--- a bound of the lanes is one of the bytes of the last three strides of 64
-abbrev pub BoundsStrides : List ℕ → List ℕ → Type 0
-BoundsStrides src lanes = (bound : ℕ) → ((k : ℕ) → k < 16 → slice_index lanes k < bound) → BelowBetween bound src 16 64
 
 -- if a character begins with the byte, it has three bytes
 abbrev pub BeginsThree : ℕ → Type 0

@@ -5,5 +5,6 @@ pub mod copy;
 pub(crate) mod lookup;
 pub mod scan;
 pub mod short;
+pub mod short_copy;
 pub(crate) mod sum;
 pub mod width;

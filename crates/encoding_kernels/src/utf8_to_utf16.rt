@@ -1,7 +1,5 @@
-//! The UTF-16 of well-formed UTF-8: `text` converts by `groups`, these by `strides`, and these by `code_units`. What needs none
-//! of them is in `block`.
+//! The UTF-16 of well-formed UTF-8: `text` converts by `groups`, these by `strides`, and these by `code_units`.
 
-mod block;
 mod code_units;
 mod groups;
 mod strides;

@@ -5,7 +5,7 @@ ghost use Rattle.std.specs.Simd.Lanes.{mask_l};
 ghost use Rattle.encoding_kernels.specs.KeptBytes.{EndsPair, all_latin1_ended, both_end};
 
 use crate::simd::compress::keep_pairs;
-use crate::simd::copy::one_before;
+use crate::simd::copy::lanes_before;
 use crate::simd::width::STRIDE;
 use std::simd::prelude::*;
 
@@ -83,7 +83,7 @@ pub fn write_latin1_of_two(src: &[u8], from: usize, dst: &mut [u8], at: usize) -
         ++ drop (at + result) dst.old) }
 {
     let block = u8x16::from_slice(&src[from..]);
-    let (first, count) = ended_latin1(one_before(block), block);
+    let (first, count) = ended_latin1(lanes_before(block).2, block);
     let before = u8x16::from_slice(&src[from + STRIDE - 1..]);
     let (second, more) = ended_latin1(before, u8x16::from_slice(&src[from + STRIDE..]));
     let end = at + (count + more);
@@ -103,13 +103,7 @@ pub fn latin1_of(block: u8x16) -> (u8x16, usize)
     ensures out_length { result.1 ≤ 16 }
     ensures latin1_ended { take result.1 result.0 ≡ all_latin1_ended 0 block }
 {
-    let before = u8x16::splat(0).shuffle(
-        block,
-        [
-            15, 16, 17, 18, 19, 20, 21, 22, 23, 24, 25, 26, 27, 28, 29, 30,
-        ],
-    );
-    latin1_of_after(before, block)
+    latin1_of_after(lanes_before(block).2, block)
 }
 
 /// Returns how many bytes of Latin1 the first `count` of sixteen bytes of UTF-8 end.

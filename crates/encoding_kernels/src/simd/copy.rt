@@ -312,41 +312,32 @@ pub(crate) fn join_bytes(lower: u8x16, upper: u8x16) -> (u16x8, u16x8)
     (u16x8::from_le_bytes(first), u16x8::from_le_bytes(last))
 }
 
-/// Returns for each lane the byte one lane before, and zero before the first.
+/// Returns for each lane the bytes three, two and one lanes before it, and zeros before the first.
 #[inline(always)]
-pub(crate) fn one_before(block: u8x16) -> u8x16
-    ensures { HasLanes 16 result (λ k. slice_index (0 ∷ block) k) }
+pub(crate) fn lanes_before(block: u8x16) -> (u8x16, u8x16, u8x16)
+    ensures three { HasLanes 16 result.0 (λ k. slice_index (0 ∷ 0 ∷ 0 ∷ block) k) }
+    ensures two { HasLanes 16 result.1 (λ k. slice_index (0 ∷ 0 ∷ block) k) }
+    ensures one { HasLanes 16 result.2 (λ k. slice_index (0 ∷ block) k) }
 {
-    u8x16::splat(0).shuffle(
-        block,
-        [
-            15, 16, 17, 18, 19, 20, 21, 22, 23, 24, 25, 26, 27, 28, 29, 30,
-        ],
-    )
-}
-
-/// Returns for each lane the byte two lanes before, and zeros before the first.
-#[inline(always)]
-pub(crate) fn two_before(block: u8x16) -> u8x16
-    ensures { HasLanes 16 result (λ k. slice_index (0 ∷ 0 ∷ block) k) }
-{
-    u8x16::splat(0).shuffle(
-        block,
-        [
-            14, 15, 16, 17, 18, 19, 20, 21, 22, 23, 24, 25, 26, 27, 28, 29,
-        ],
-    )
-}
-
-/// Returns for each lane the byte three lanes before, and zeros before the first.
-#[inline(always)]
-pub(crate) fn three_before(block: u8x16) -> u8x16
-    ensures { HasLanes 16 result (λ k. slice_index (0 ∷ 0 ∷ 0 ∷ block) k) }
-{
-    u8x16::splat(0).shuffle(
-        block,
-        [
-            13, 14, 15, 16, 17, 18, 19, 20, 21, 22, 23, 24, 25, 26, 27, 28,
-        ],
+    let zero = u8x16::splat(0);
+    (
+        zero.shuffle(
+            block,
+            [
+                13, 14, 15, 16, 17, 18, 19, 20, 21, 22, 23, 24, 25, 26, 27, 28,
+            ],
+        ),
+        zero.shuffle(
+            block,
+            [
+                14, 15, 16, 17, 18, 19, 20, 21, 22, 23, 24, 25, 26, 27, 28, 29,
+            ],
+        ),
+        zero.shuffle(
+            block,
+            [
+                15, 16, 17, 18, 19, 20, 21, 22, 23, 24, 25, 26, 27, 28, 29, 30,
+            ],
+        ),
     )
 }

@@ -6,7 +6,7 @@
 ghost use Rattle.std.specs.Prelude.{◌≡◌, ℕ, ◌+◌, ◌<◌, ◌≤◌, length, slice_index};
 ghost use Rattle.encoding_kernels.specs.Following.{IsValidAfter, IsValidAt};
 
-use crate::simd::copy::{one_before, three_before, two_before};
+use crate::simd::copy::lanes_before;
 use crate::simd::lookup::twice;
 use std::simd::prelude::*;
 
@@ -172,12 +172,8 @@ pub(super) fn first_faults(src: &[u8]) -> u8x16
     ensures lanes { (i : ℕ) → i < 16 → slice_index result i ≡ 0 → IsValidAt src.now i }
 {
     let block = u8x16::from_slice(src);
-    faults_of(
-        three_before(block),
-        two_before(block),
-        one_before(block),
-        block,
-    )
+    let (fourth, third, second) = lanes_before(block);
+    faults_of(fourth, third, second, block)
 }
 
 /// Returns, for the first 32 bytes, zero in each lane whose byte may follow those before it.

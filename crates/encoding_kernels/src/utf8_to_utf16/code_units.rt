@@ -6,7 +6,7 @@ ghost use Rattle.std.specs.Prelude.{◌≡◌, ℕ, ◌+◌, ◌-◌, ◌*◌, �
 ghost use Rattle.std.specs.Int.RustNames.{count_ones};
 ghost use Rattle.std.specs.Simd.Lanes.{mask_l};
 ghost use Rattle.encoding_kernels.specs.Scans.{BelowUpTo, HasLanes};
-ghost use Rattle.encoding_kernels.specs.EndingUnits.{ends_after, low_bits, unit_at, units_after, upper_of, compressed_places, byte_places, WritesCompressed};
+ghost use Rattle.encoding_kernels.specs.EndingUnits.{ends_after, low_bits, unit_at, units_after, upper_of, compressed_places, WritesCompressed};
 
 use crate::simd::copy::join_bytes;
 use std::simd::prelude::*;
@@ -137,16 +137,21 @@ pub(super) fn units_of_stride<const N: usize>(
     any_units(three, two, one, block)
 }
 
-/// Returns a bit for each of the sixteen bytes from `at` on that ends a code unit, given the byte before each.
+/// Returns a bit for each of the sixteen bytes from `at` on that ends a code unit, except the first `from` and those from `to` on,
+/// given the byte before each.
 #[inline(always)]
-pub(super) fn ends_of_stride(src: &[u8], at: usize, one: u8x16) -> usize
+pub(super) fn ends_of_stride(src: &[u8], at: usize, one: u8x16, from: usize, to: usize) -> usize
     requires within { at + 16 ≤ length src.now }
     requires one_before { HasLanes 16 one (λ k. slice_index (0 ∷ src.now) (at + k)) }
-    ensures { result ≡ mask_l (take 16 (drop at (ends_after 0 src.now))) }
+    requires part { (from ≤ to) × (to ≤ 16) }
+    ensures { result ≡ mask_l (replicate from false
+        ++ drop from (take to (take 16 (drop at (ends_after 0 src.now)))
+        ++ replicate (16 - to) false)) }
 {
     let block = u8x16::from_slice(&src[at..]);
     let ends = block.simd_lt(u8x16::splat(0xC0)) & one.simd_lt(u8x16::splat(0xE0));
-    ends.to_bitmask() as usize
+    let mask = ends.to_bitmask() as usize;
+    (mask & ((1 << to) - 1)) >> from << from
 }
 
 /// The indices of the lanes of a vector.
@@ -176,44 +181,15 @@ const COMPRESSED: [u64; 512] = rows!(
     0x0100_0100_0100_0100_0100_0100_0100_0100u128
 );
 
-/// Returns a word of the table.
-#[inline(always)]
-fn compressed_word(at: usize) -> u64
-    requires { at < 512 }
-    ensures { result ≡ slice_index COMPRESSED at }
-{
-    COMPRESSED[at]
-}
-
-/// Returns the indices of the two bytes of each kept lane, in order.
-#[tactic(auto, using(crate::proofs::CompressLemmas::row_is))]
-#[inline(always)]
-fn compress_places(mask: usize) -> u8x16
-    requires { mask < 256 }
-    ensures { result ≡ byte_places mask }
-{
-    u64x2::from_array([compressed_word(2 * mask), compressed_word(2 * mask + 1)]).to_le_bytes()
-}
-
 /// Returns the kept lanes, in order, followed by copies of the first lane.
 #[inline(always)]
 fn compress(lanes: u16x8, mask: usize) -> u16x8
     requires { mask < 256 }
     ensures { result ≡ map (λ k. slice_index lanes k) (compressed_places mask) }
 {
-    u16x8::from_le_bytes(lanes.to_le_bytes().swizzle_dyn(compress_places(mask)))
-}
-
-/// Returns the mask of sixteen lanes without the bits of the first `from` and of those from `to` on.
-#[tactic(auto, using(crate::proofs::MaskPartLemmas::mask_between))]
-#[inline(always)]
-pub(super) fn kept_between(mask: usize, from: usize, to: usize) -> usize
-    requires { (mask < 2 ^ 16) × (from ≤ to) × (to ≤ 16) }
-    ensures { (marks : List Bool) → length marks ≡ 16 → mask ≡ mask_l marks
-        → result ≡ mask_l (replicate from false
-        ++ drop from (take to marks ++ replicate (16 - to) false)) }
-{
-    (mask & ((1 << to) - 1)) >> from << from
+    let (first, last) = (COMPRESSED[2 * mask], COMPRESSED[2 * mask + 1]);
+    let places = u64x2::from_array([first, last]).to_le_bytes();
+    u16x8::from_le_bytes(lanes.to_le_bytes().swizzle_dyn(places))
 }
 
 /// Writes the units whose bit is set, in order, and returns their number. Up to SPARE units after them may change: eight, or

@@ -1,15 +1,14 @@
 //! UTF-16 of long texts: of up to eight characters of three bytes at once, and of groups of 64 bytes.
 
-ghost use Rattle.std.specs.Prelude.{ℕ, ◌≡◌, ◌+◌, ◌*◌, ◌<◌, ◌≤◌, IsTrue, IsFalse, length, slice_index};
+ghost use Rattle.std.specs.Prelude.{ℕ, ◌≡◌, ◌+◌, ◌*◌, ◌<◌, ◌≤◌, IsTrue, length, slice_index};
 ghost use Rattle.std.specs.Str.{IsUtf8};
-ghost use Rattle.encoding_kernels.specs.Scans.{BelowBetween, BelowUpTo, HasLanes};
-ghost use Rattle.encoding_kernels.specs.EndingUnits.{BeginsThree, BoundsStrides, WritesUtf16, triple_unit, units_in};
+ghost use Rattle.encoding_kernels.specs.Scans.{BelowBetween, BelowUpTo};
+ghost use Rattle.encoding_kernels.specs.EndingUnits.{BeginsThree, WritesUtf16, units_in};
 
 use crate::simd::scan::{are_bytes_below, run_before};
 use crate::simd::width::{ASCII_END, BLOCK, FOUR, HALF_BLOCK, STRIDE};
-use crate::utf8_to_utf16::block::{FOUR_BYTES, whole_end};
 use crate::utf8_to_utf16::code_units::is_below;
-use crate::utf8_to_utf16::strides::{write_block, write_stride};
+use crate::utf8_to_utf16::strides::{FOUR_BYTES, whole_end, write_block, write_stride};
 use std::simd::prelude::*;
 
 /// The least length of a text whose first 64 bytes may be converted at once: the units that these store after their own
@@ -55,12 +54,14 @@ pub(super) fn begins_triples(src: &[u8]) -> bool
     !others.any()
 }
 
-/// Returns the code units of eight characters of three bytes.
+/// Writes the UTF-16 of the first `count` characters, of three bytes each. The first eight code units may have changed.
 #[inline(always)]
-fn triple_units(src: &[u8]) -> u16x8
-    requires { 24 ≤ length src.now }
-    ensures { HasLanes 8 result (λ k. triple_unit (slice_index src.now (3 * k))
-        (slice_index src.now (3 * k + 1)) (slice_index src.now (3 * k + 2))) }
+pub(super) fn write_triples(src: &[u8], count: usize, dst: &mut [u16])
+    requires dst_length { (24 ≤ length src.now) × (8 ≤ length dst.old) }
+    requires text { IsUtf8 src.now }
+    requires triples { (count ≤ 8)
+        × ((k : ℕ) → k < count → BeginsThree (slice_index src.now (3 * k))) }
+    ensures { WritesUtf16 src.now dst.old dst.new (3 * count) count 8 }
 {
     let six = u16x8::splat(0x3F);
     let first = u8x16::from_slice(src);
@@ -74,19 +75,8 @@ fn triple_units(src: &[u8]) -> u16x8
     let third = first
         .shuffle::<8>(later, [2, 5, 8, 11, 14, 25, 28, 31])
         .cast::<u16>();
-    leads * u16x8::splat(0x1000) + ((second & six) * u16x8::splat(64) + (third & six))
-}
-
-/// Writes the UTF-16 of the first `count` characters, of three bytes each. The first eight code units may have changed.
-#[inline(always)]
-pub(super) fn write_triples(src: &[u8], count: usize, dst: &mut [u16])
-    requires dst_length { (24 ≤ length src.now) × (8 ≤ length dst.old) }
-    requires text { IsUtf8 src.now }
-    requires triples { (count ≤ 8)
-        × ((k : ℕ) → k < count → BeginsThree (slice_index src.now (3 * k))) }
-    ensures { WritesUtf16 src.now dst.old dst.new (3 * count) count 8 }
-{
-    triple_units(src).copy_to_slice(dst);
+    let units = leads * u16x8::splat(0x1000) + ((second & six) * u16x8::splat(64) + (third & six));
+    units.copy_to_slice(dst);
 }
 
 /// Returns how many of the first eight characters have three bytes, up to the first that hasn't.
@@ -109,26 +99,22 @@ fn leading_triples(src: &[u8]) -> usize
     end / 3
 }
 
-/// Returns for each lane the greatest of the bytes at it in the last three strides of 64 bytes.
+/// Returns whether none of the first 64 bytes begins a character of four bytes, and whether the last 48 of them are ASCII.
 #[inline(always)]
-fn greatest_after_stride(src: &[u8]) -> u8x16
+fn kinds_of_group(src: &[u8]) -> (bool, bool)
     requires { 64 ≤ length src.now }
-    ensures { BoundsStrides src.now result }
+    ensures short { IsTrue result.0 → BelowUpTo 0xF0 src.now 64 }
+    ensures ascii { IsTrue result.1 → BelowBetween 0x80 src.now 16 64 }
 {
+    let first = u8x16::from_slice(src);
     let second = u8x16::from_slice(&src[STRIDE..]);
     let third = u8x16::from_slice(&src[2 * STRIDE..]);
     let fourth = u8x16::from_slice(&src[3 * STRIDE..]);
-    second.simd_max(third).simd_max(fourth)
-}
-
-/// Returns whether one of the first 64 bytes may begin a character of four bytes, given the greatest of the last three strides.
-#[inline(always)]
-fn begins_four_bytes(src: &[u8], rest: u8x16) -> bool
-    requires src_length { 64 ≤ length src.now }
-    requires rest { BoundsStrides src.now rest }
-    ensures { IsFalse result → BelowUpTo 0xF0 src.now 64 }
-{
-    !is_below(u8x16::from_slice(src).simd_max(rest), FOUR_BYTES)
+    let rest = second.simd_max(third).simd_max(fourth);
+    (
+        is_below(first.simd_max(rest), FOUR_BYTES),
+        is_below(rest, ASCII_END),
+    )
 }
 
 /// Writes the UTF-16 of the whole characters in the first 64 bytes, if none has more than N bytes. Returns how many bytes it read
@@ -192,12 +178,12 @@ fn convert_group(src: &[u8], dst: &mut [u16]) -> (usize, usize, bool)
         write_triples(src, UNITS, dst);
         return (TRIPLES, UNITS, false);
     }
-    let rest = greatest_after_stride(src);
-    if begins_four_bytes(src, rest) {
+    let (is_short, before_ascii) = kinds_of_group(src);
+    if !is_short {
         let (bytes, units) = write_with_pairs(src, dst);
         return (bytes, units, false);
     }
-    if is_below(rest, ASCII_END) {
+    if before_ascii {
         return (
             STRIDE,
             write_stride::<3, 0, 8>(src, 0, 0, STRIDE, dst),

@@ -8,21 +8,58 @@
 ghost use Rattle.std.specs.Prelude.{◌≡◌, ◌+◌, ◌-◌, ◌<◌, ◌≤◌, ◌∷◌, length, take, drop, slice_index};
 ghost use Rattle.std.specs.List.{flat_map};
 ghost use Rattle.std.specs.Char.Escape.{encode_utf16};
-ghost use Rattle.std.specs.Str.{IsUtf8, chars};
+ghost use Rattle.std.specs.Str.{IsUtf8, IsCharBoundary, chars};
 ghost use Rattle.encoding_definitions.specs.Prefixes.{WritesPrefix};
 ghost use Rattle.encoding_kernels.specs.Scans.{BelowUpTo, HasLanes};
-ghost use Rattle.encoding_kernels.specs.EndingUnits.{WritesCompressed, WritesUtf16, units_after, units_in, ends_after};
+ghost use Rattle.encoding_kernels.specs.EndingUnits.{NoUnitEnds, WritesCompressed, WritesUtf16, units_after, units_in, ends_after};
 
-use crate::simd::copy::{one_before, three_before, two_before, with_zeros};
+use crate::scalar::{decode_utf8_scalar, sequence_length, write_utf16};
+use crate::simd::copy::{lanes_before, with_zeros};
 use crate::simd::width::{HALF_STRIDE, STRIDE};
-use crate::utf8_to_utf16::block::{FOUR_BYTES, whole_end, write_character};
-use crate::utf8_to_utf16::code_units::{
-    ends_of_stride, is_below, kept_between, units_of_stride, write_kept,
-};
+use crate::utf8_to_utf16::code_units::{ends_of_stride, is_below, units_of_stride, write_kept};
 use std::simd::prelude::*;
+
+/// The least byte that begins four.
+pub(super) const FOUR_BYTES: u8 = 0xF0;
 
 /// The least length of a text that is written by strides: three bytes precede its last one.
 pub(super) const STRIDE_AND_BEFORE: usize = STRIDE + 3;
+
+/// Returns the end of the last whole character of the first WIDTH bytes, if no character in them has more than N bytes.
+#[inline(always)]
+pub(super) fn whole_end<const WIDTH: usize, const N: usize>(src: &[u8]) -> usize
+    requires within { (3 ≤ WIDTH) × (WIDTH ≤ length src.now) × IsUtf8 src.now }
+    requires short { N < 4 → BelowUpTo 0xF0 src.now WIDTH }
+    ensures end { (WIDTH ≤ result + 3) × (result ≤ WIDTH) × IsCharBoundary src.now result }
+    ensures cut { N < 4 → NoUnitEnds src.now result WIDTH }
+{
+    if N >= 4 && src[WIDTH - 3] >= FOUR_BYTES {
+        return WIDTH - 3;
+    }
+    if src[WIDTH - 2] >= 0xE0 {
+        return WIDTH - 2;
+    }
+    if src[WIDTH - 1] >= 0xC0 {
+        return WIDTH - 1;
+    }
+    WIDTH
+}
+
+/// Writes the UTF-16 of the first character, and returns how many bytes it read and how many code units it wrote.
+#[inline(always)]
+pub(super) fn write_character(src: &[u8], dst: &mut [u16]) -> (usize, usize)
+    requires dst_length { (0 < length src.now) × (length src.now ≤ length dst.old) }
+    requires text { IsUtf8 src.now }
+    ensures progress { 0 < result.0 }
+    ensures written { WritesUtf16 src.now dst.old dst.new result.0 result.1 result.1 }
+{
+    let length = sequence_length(src[0]);
+    let scalar = decode_utf8_scalar(&src[..length]);
+    let Some(units) = write_utf16(scalar, dst) else {
+        unreachable!();
+    };
+    (length, units)
+}
 
 /// Returns the bytes three, two and one before each of the sixteen from `at` on. If BEFORE is 0, these are the first of the text,
 /// and zeros precede it.
@@ -34,8 +71,7 @@ fn bytes_before<const BEFORE: usize>(src: &[u8], at: usize) -> (u8x16, u8x16, u8
     ensures one { HasLanes 16 result.2 (λ k. slice_index (0 ∷ src.now) (at + k)) }
 {
     if BEFORE < 3 {
-        let block = u8x16::from_slice(src);
-        return (three_before(block), two_before(block), one_before(block));
+        return lanes_before(u8x16::from_slice(src));
     }
     let three = u8x16::from_slice(&src[at - 3..]);
     let two = u8x16::from_slice(&src[at - 2..]);
@@ -65,7 +101,7 @@ pub(super) fn write_stride<const N: usize, const BEFORE: usize, const SPARE: usi
 {
     let (three, two, one) = bytes_before::<BEFORE>(src, at);
     let (first, last) = units_of_stride::<N>(src, at, three, two, one);
-    let kept = kept_between(ends_of_stride(src, at, one), from, to);
+    let kept = ends_of_stride(src, at, one, from, to);
     write_kept::<SPARE>(first, last, kept, dst)
 }
 

@@ -13,11 +13,12 @@ use crate::scalar::sequence_length;
 use crate::simd::scan::{BytesBelow, are_bytes_below};
 use crate::simd::short::pass_short;
 use crate::simd::width::{ASCII_END, BLOCK, STRIDE, TWO_BLOCKS};
-use crate::utf8_to_utf16::block::{FOUR_BYTES, write_character};
 use crate::utf8_to_utf16::groups::{
     GROUP_OF_TEXT, TRIPLES, UNITS, begins_triples, convert_groups, write_triples,
 };
-use crate::utf8_to_utf16::strides::{STRIDE_AND_BEFORE, write_block, write_strides, write_tail};
+use crate::utf8_to_utf16::strides::{
+    FOUR_BYTES, STRIDE_AND_BEFORE, write_block, write_character, write_strides, write_tail,
+};
 
 /// Writes the UTF-16 of a text of at most 128 bytes, and returns its length in code units. The rest of `dst` is unchanged.
 /// Runs of characters of three bytes come first. Then each code unit is computed, even if it is ASCII.

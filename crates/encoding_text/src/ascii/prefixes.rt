@@ -16,7 +16,7 @@ use encoding_kernels::simd::scan::{
     BytesBelow, are_bytes_below, are_four_blocks_below, run_len_below,
 };
 use encoding_kernels::simd::short::pass_short;
-pub(crate) use encoding_kernels::simd::short::{
+pub(crate) use encoding_kernels::simd::short_copy::{
     BytesToBytes, BytesToUnits, UnitsToBytes, write_short,
 };
 use encoding_kernels::simd::width::{

@@ -33,7 +33,7 @@ returns c =
     let next = store_spills_rest one second.result.0 (at + n) m second.ensures.lane_count bounds.1 (omega (arith, stored.long, bounds.0)) in
     let both = spills_then old one two at n m (16 - n) (16 - m) _ _ stored next (omega (arith, bounds.2)) in
     let ended : take n first.result.0 ++ take m second.result.0 ≡ all_latin1_ended 0 (take 32 (drop from src)) =
-    (λ i. first.ensures.latin1_ended 0 c.one_before.ensures.each i
+    (λ i. first.ensures.latin1_ended 0 c.lanes_before.ensures.one.each i
     ++ second.ensures.latin1_ended (get_or src (from + 15) 0) (before_second src from c.requires.within) i)
     ∙ ended_of_two src from c.requires.within in
     let all = subst (Spills old two at (n + m) (16 - m)) ended both in

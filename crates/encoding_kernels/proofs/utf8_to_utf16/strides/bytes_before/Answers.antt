@@ -3,13 +3,13 @@ use Rattle.encoding_kernels.proofs.GroupLemmas.{loaded_before, zeros_before}
 use Rattle.encoding_kernels.proofs.utf8_to_utf16.strides.bytes_before.Goals as goal
 
 pub returns-then-this-lt3-clause-three : goal.returns-then-this-lt3-clause-three
-returns-then-this-lt3-clause-three g c = zeros_before c.args.src.now _ (0 ∷ 0 ∷ 0 ∷ []) c.args.at (omega arith) (omega arith) c.three_before.ensures
+returns-then-this-lt3-clause-three g c = zeros_before c.args.src.now _ (0 ∷ 0 ∷ 0 ∷ []) c.args.at (omega arith) (omega arith) c.lanes_before.ensures.three
 
 pub returns-then-this-lt3-clause-two : goal.returns-then-this-lt3-clause-two
-returns-then-this-lt3-clause-two g c = zeros_before c.args.src.now _ (0 ∷ 0 ∷ []) c.args.at (omega arith) (omega arith) c.two_before.ensures
+returns-then-this-lt3-clause-two g c = zeros_before c.args.src.now _ (0 ∷ 0 ∷ []) c.args.at (omega arith) (omega arith) c.lanes_before.ensures.two
 
 pub returns-then-this-lt3-clause-one : goal.returns-then-this-lt3-clause-one
-returns-then-this-lt3-clause-one g c = zeros_before c.args.src.now _ (0 ∷ []) c.args.at (omega arith) (omega arith) c.one_before.ensures
+returns-then-this-lt3-clause-one g c = zeros_before c.args.src.now _ (0 ∷ []) c.args.at (omega arith) (omega arith) c.lanes_before.ensures.one
 
 pub returns-clause-three : goal.returns-clause-three
 returns-clause-three g c = loaded_before c.args.src.now (0 ∷ 0 ∷ 0 ∷ []) c.args.at (omega arith) (omega arith)

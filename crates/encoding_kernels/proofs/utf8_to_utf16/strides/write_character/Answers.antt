@@ -1,6 +1,6 @@
 use Rattle.std.proofs.Common.{length, length-take-le, sym}
 use Rattle.encoding_kernels.proofs.Utf8ToUtf16LoopLemmas.{first_character, puts_character, character_fits}
-use Rattle.encoding_kernels.proofs.utf8_to_utf16.block.write_character.Goals as goal
+use Rattle.encoding_kernels.proofs.utf8_to_utf16.strides.write_character.Goals as goal
 
 pub slice_bounds-decode_utf8_scalar-end : goal.slice_bounds-decode_utf8_scalar-end
 slice_bounds-decode_utf8_scalar-end c =
