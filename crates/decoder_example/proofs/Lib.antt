@@ -1,3 +1,2 @@
 pub mod YieldedLemmas
-pub mod ReplacingCallLemmas
-pub mod MarkLemmas
+pub mod StreamTextLemmas

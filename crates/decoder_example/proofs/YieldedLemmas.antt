@@ -1,96 +1,21 @@
--- The parts that one call yields, and their text with U+FFFD for each malformed sequence. What calls in sequence yield.
-use Rattle.std.proofs.Common.{◌≡◌, ℕ, ◌+◌, Bool, true, false, ◌||◌, nat_lt, List, [], ◌∷◌, ◌++◌, drop, map, refl, sym, ap, subst, ◌∙◌, arith, append-nil, ◌≤◌, inl, length, take, encode_utf8_all, length-append, take-append-drop}
-use Rattle.std.proofs.lemmas.Bool.Decides.{nat_tests}
-use Rattle.std.proofs.lemmas.Grind.{flat_map-append}
-use Rattle.std.specs.List.{flat_map, list_any}
-use Rattle.encoding_text.specs.Parts.{Part, Character, StartsWith, lossy_scalar, malformed_count, AreFinal, bytes_of}
-use Rattle.encoding_text.proofs.DecompositionLemmas.{StartsWith-append, malformed_count-append, malformed_count-characters}
-use Rattle.encoding_text.specs.Decoding.{AreDecoded, IsReported, DecodeStep}
-use Rattle.encoding_text.specs.declared.decoder.DecoderResult.{DecoderResult}
-use Rattle.encoding_text.specs.declared.decoder.DecoderResult.TheVariants.{InputEmpty, OutputFull, Malformed}
-use Rattle.decoder_example.specs.Marked.{YieldsText, State, left}
-use Rattle.std.proofs.lemmas.List.{take_at, drop-append-le, drop_all, nil_from_length, length-take}
+-- What calls yield in sequence, of streams and of whole texts.
+use Rattle.std.proofs.Common.{◌≡◌, ℕ, ◌≤◌, Bool, true, false, List, [], ◌++◌, drop, refl, sym, ap, subst, ◌∙◌, arith, append-nil, inl, length, encode_utf8_all, length-append}
+use Rattle.std.proofs.lemmas.Bool.{both_ways}
+use Rattle.std.specs.List.{flat_map}
+use Rattle.std.proofs.lemmas.List.{drop_all, nil_from_length, length-take}
 use Rattle.std.specs.Str.{all_scalars}
+use Rattle.encoding_text.specs.Parts.{Part, StartsWith, AreFinal, bytes_of}
 use Rattle.encoding_text.specs.Sequence.{IsPending}
-use Rattle.encoding_text.specs.OneResult.{HasOneResult}
+use Rattle.encoding_text.specs.OneResult.{AreSamePiece, HasOnePiece, HasOneResult}
+use Rattle.encoding_text.specs.Decoding.{BorrowedDecodeStep, DecodeStep}
+use Rattle.encoding_text.specs.declared.decoder.DecoderResult.{DecoderResult}
+use Rattle.encoding_text.specs.declared.decoder.DecoderResult.TheVariants.{InputEmpty}
+use Rattle.encoding_text.specs.declared.decoder.Piece.{Piece}
+use Rattle.encoding_text.specs.declared.decoder.Piece.TheVariants as piece
 use Rattle.encoding_runs.specs.Calls.{Call, read_in_all, pending_after, some_last, YieldTheParts}
 use Rattle.encoding_runs.specs.MixedCalls.{Form, CallResult, AreYielded, IsInputEmpty}
-use Rattle.decoder_example.specs.ReplacingCalls.{Made, AreMade, TakesWhole, state_after, unread_after}
+use Rattle.decoder_example.specs.Streams.{TakesWhole}
 
-some_either : (a b : ℕ) → nat_lt 0 (a + b) ≡ (nat_lt 0 a || nat_lt 0 b)
-some_either a b = grind (arith, nat_tests)
-
-module _ {A : Type 0} (encode : ℕ → List A) where
-  abbrev pub text : List Part → List A
-  text parts = flat_map (λ part. encode (lossy_scalar part)) parts
-
-  text-characters : (cs : List ℕ) → text (map Character cs) ≡ flat_map encode cs
-  text-characters [] = refl
-  text-characters (c ∷ cs) = ap (λ xs. encode c ++ xs) (text-characters cs)
-
-  -- what is written for a malformed sequence that is reported
-  abbrev pub written_for : DecoderResult → List A
-  written_for InputEmpty = []
-  written_for OutputFull = []
-  written_for (Malformed k second) = encode 0xFFFD
-
-  abbrev pub is_report : DecoderResult → Bool
-  is_report InputEmpty = false
-  is_report OutputFull = false
-  is_report (Malformed k second) = true
-
-  reported_text : (result : DecoderResult) (parts : List Part) → IsReported result parts
-      → (text parts ≡ written_for result) × (nat_lt 0 (malformed_count parts) ≡ is_report result)
-  reported_text InputEmpty parts e = rw e (refl, refl)
-  reported_text OutputFull parts e = rw e (refl, refl)
-  reported_text (Malformed k second) parts (x, e, size) = rw e (append-nil (encode 0xFFFD), refl)
-
-  -- the text of what a call yields is what it wrote, and U+FFFD for what it reported
-  pub decoded_text : (result : DecoderResult) (out : List A) (parts : List Part) → AreDecoded encode result out parts
-      → (out ++ written_for result ≡ text parts) × (is_report result ≡ nat_lt 0 (malformed_count parts))
-  decoded_text result out parts (cs, reported, scalars, is_out, is, e) =
-      let r = reported_text result reported is in (
-        ap (λ xs. xs ++ written_for result) (is_out ∙ sym (text-characters cs)) ∙ ap (λ xs. text (map Character cs) ++ xs) (sym r.0)
-            ∙ sym (flat_map-append (λ part. encode (lossy_scalar part)) (map Character cs) reported) ∙ ap text (sym e),
-        sym r.1 ∙ ap (nat_lt 0) (omega (arith, malformed_count-characters cs, malformed_count-append (map Character cs) reported, ap malformed_count e)),
-      )
-
-  pub YieldsText-nil : (bytes : List ℕ) → YieldsText encode bytes bytes [] false
-  YieldsText-nil bytes = record { parts = []; first = refl; text = refl; malformed = refl }
-
-  pub YieldsText-append : (bytes mid rest : List ℕ) (out more : List A) (replaced again : Bool) → YieldsText encode bytes mid out replaced
-      → YieldsText encode mid rest more again
-      → YieldsText encode bytes rest (out ++ more) (replaced || again)
-  YieldsText-append bytes mid rest out more replaced again g h = record {
-    parts = g.parts ++ h.parts;
-    first = StartsWith-append bytes g.parts mid h.parts rest g.first h.first;
-    text = (λ i. g.text i ++ h.text i) ∙ sym (flat_map-append (λ part. encode (lossy_scalar part)) g.parts h.parts);
-    malformed = (λ i. g.malformed i || h.malformed i)
-        ∙ sym (ap (nat_lt 0) (malformed_count-append g.parts h.parts) ∙ some_either (malformed_count g.parts) (malformed_count h.parts));
-  }
-
-pub calls_give : {A : Type 0} (encode : ℕ → List A) (need : ℕ) (query : ℕ → ℕ → ℕ) (state : State) (unread : List ℕ) (calls : List (Made A))
-    → AreMade encode need query state unread calls
-    → YieldsText encode (left state unread) (left (state_after state calls) (unread_after unread calls)) (flat_map (λ call. call.out) calls)
-    (list_any (λ call. call.replaced) calls)
-calls_give encode need query state unread [] made = YieldsText-nil encode (left state unread)
-calls_give encode need query state unread (call ∷ calls) ((dst, dst', out, does), last, made) =
-    let prefix = take call.piece unread in
-    let back = drop call.piece unread in
-    let whole : prefix ++ back ≡ unread = take-append-drop call.piece unread in
-    let rest : drop call.read prefix ++ back ≡ drop call.read unread = sym (drop-append-le call.read prefix back does.wrote.within)
-    ∙ ap (drop call.read) whole in
-    let written : does.wrote.out ≡ call.out =
-    sym (out ∙ ap (take (length call.out)) does.wrote.writes.placed
-    ∙ take_at does.wrote.out (drop (length call.out) dst) (length call.out) (sym does.wrote.writes.count)) in
-    let first : YieldsText encode (left state unread) (left call.after (drop call.read unread)) call.out call.replaced =
-    subst (λ bs. YieldsText encode (left state bs) (left call.after (drop call.read unread)) call.out call.replaced) whole
-    (subst (λ bs. YieldsText encode (left state (prefix ++ back)) (left call.after bs) call.out call.replaced) rest
-    (subst (λ xs. YieldsText encode (left state (prefix ++ back)) (left call.after (drop call.read prefix ++ back)) xs call.replaced) written
-    (does.wrote.yields back last))) in
-    YieldsText-append encode _ _ _ _ _ _ _ first (calls_give encode need query call.after (drop call.read unread) calls made)
-
--- ---- the decoder inside
 -- all that was read, if more may follow, is final
 pub final_calls : ((bs rest : List ℕ) (parts : List Part) → StartsWith bs parts rest → IsPending rest
     → ((more : List ℕ) → StartsWith (bs ++ more) parts (rest ++ more)) → AreFinal bs parts rest)
@@ -131,3 +56,25 @@ takes_whole encode need cs out q room read last result scalars fits (r, k, units
     let a = one InputEmpty _ _ _ whole in
     let b = one result read out q made in
     (sym b.0 ∙ a.0, sym b.1 ∙ a.1, sym b.2 ∙ a.2, sym b.3 ∙ a.3)
+
+-- ---- the start of a character
+none_returned : (one returned : Piece) → AreSamePiece one piece.InputEmpty → AreSamePiece one returned → returned ≡ piece.InputEmpty
+none_returned piece.InputEmpty piece.InputEmpty none same = refl
+none_returned piece.InputEmpty (piece.Text t) none same = absurd same
+none_returned piece.InputEmpty (piece.Char c) none same = absurd same
+none_returned piece.InputEmpty (piece.Malformed k) none same = absurd same
+none_returned (piece.Text t) returned none same = absurd none
+none_returned (piece.Char c) returned none same = absurd none
+none_returned (piece.Malformed k) returned none same = absurd none
+
+pub start_stays : (start q : List ℕ) (returned : Piece) (read : ℕ) → IsPending start → HasOnePiece [] start false
+    → BorrowedDecodeStep [] start false returned read q → (returned ≡ piece.InputEmpty) × (read ≡ length start) × (q ≡ start)
+start_stays start q returned read incomplete (one, count, pending, call, same) made =
+    let kept : BorrowedDecodeStep [] start false piece.InputEmpty (length start) start = record {
+      pending_before = inl refl;
+      pending = incomplete;
+      answer = (refl, refl, λ marked. absurd (both_ways _ refl marked));
+    } in
+    let here = same piece.InputEmpty _ _ kept in
+    let there = same returned read q made in
+    (none_returned one returned here.0 there.0, sym there.1 ∙ here.1, sym there.2 ∙ here.2)

@@ -1,34 +1,17 @@
 //! What holds of calls in sequence, over whole streams: laws, each the contract of a function that does nothing.
 ghost use Rattle.std.specs.Prelude.{◌≡◌, ℕ, ◌≤◌, Bool, true, false, List, [], Any, IsTrue, encode_utf8, encode_utf8_all, length};
 ghost use Rattle.std.specs.Char.Escape.{encode_utf16};
-ghost use Rattle.std.specs.List.{AllZip, flat_map, list_any};
+ghost use Rattle.std.specs.List.{AllZip, flat_map};
 ghost use Rattle.std.specs.Str.{all_scalars};
 ghost use Rattle.encoding_text.specs.Sequence.{IsPending};
-ghost use Rattle.encoding_text.specs.Decoding.{DecodeStep, max_utf16_length, max_utf8_length_with_replacement};
+ghost use Rattle.encoding_text.specs.Decoding.{BorrowedDecodeStep, DecodeStep};
 ghost use Rattle.encoding_text.specs.declared.decoder.DecoderResult.{DecoderResult};
+ghost use Rattle.encoding_text.specs.declared.decoder.Piece.{Piece};
 ghost use Rattle.encoding_runs.specs.Calls.{Call, IsChain, read_in_all, pending_after, some_last};
 ghost use Rattle.encoding_runs.specs.MixedCalls.{Form, CallResult, MixedDecodeStep, IsInputEmpty, AreAskedTheSame, ReturnTheSame};
-ghost use Rattle.decoder_example.specs.Marked.{State, YieldsText, left};
-ghost use Rattle.decoder_example.specs.ReplacingCalls.{AreMade, Made, YieldFinalParts, TakesWhole, state_after, unread_after};
+ghost use Rattle.decoder_example.specs.Streams.{TakesWhole, YieldFinalParts};
 
 use encoding_runs::laws::{law_mixed_calls, law_parts};
-
-/// Calls in sequence, over one stream, each passed the first of the unread bytes. Together they write the text of the
-/// first parts of the stream without its mark, with U+FFFD for each malformed sequence, in any pieces and destinations.
-/// U+FFFD is written for a part if a call says so. What is left is kept or unread: nothing, once a call marked last
-/// returns `InputEmpty`.
-pub fn law_calls()
-    ensures utf16 { (state : State) (stream : List ℕ) (calls : List (Made ℕ))
-        → AreMade encode_utf16 2 max_utf16_length state stream calls
-        → YieldsText encode_utf16 (left state stream)
-        (left (state_after state calls) (unread_after stream calls))
-        (flat_map (λ call. call.out) calls) (list_any (λ call. call.replaced) calls) }
-    ensures utf8 { (state : State) (stream : List ℕ) (calls : List (Made ℕ))
-        → AreMade encode_utf8 4 max_utf8_length_with_replacement state stream calls
-        → YieldsText encode_utf8 (left state stream)
-        (left (state_after state calls) (unread_after stream calls))
-        (flat_map (λ call. call.out) calls) (list_any (λ call. call.replaced) calls) }
-{}
 
 /// Calls that read all of a stream so far, of which more may follow, yield exactly its final parts: no more are known
 /// yet. Their text is never taken back, in UTF-8 or in UTF-16: it is a prefix of the text of the whole, for any
@@ -55,6 +38,16 @@ pub fn law_next_stream()
 {
     law_mixed_calls();
     law_parts();
+}
+
+/// The start of a character stays pending as long as more may follow: a call without a destination, of a decoder with
+/// nothing pending, reads all of it and reports nothing.
+pub fn law_incomplete_stays()
+    ensures { (start pending : List ℕ) (returned : Piece) (read : ℕ) → IsPending start
+        → BorrowedDecodeStep [] start false returned read pending
+        → (returned ≡ Piece.InputEmpty) × (read ≡ length start) × (pending ≡ start) }
+{
+    law_mixed_calls();
 }
 
 /// One call of a decoder with nothing pending reads a whole text into a destination of just its length, which is less

@@ -3,8 +3,9 @@
 ghost use Rattle.std.specs.Prelude.{◌<◌};
 
 use cuts_example::{malformed_indices, repair_apart, text_of_pieces};
-use decoder_example::{CoderResult, Decoder};
+use decoder_example::decode_stream;
 use encoding_runs::reader::{Utf8Reader, Utf16Reader};
+use encoding_streams::encoding::{CoderResult, Encoding};
 use engine_example::turns::utf8_by_turns;
 use engine_example::units::{has_right_to_left, is_repaired, is_text, utf8_of_units};
 use engine_example::{block_of_text, blocks_of_utf8, utf8_of_blocks};
@@ -90,35 +91,28 @@ fn repairs_in_pieces(rt: HostRuntime) -> Result<(), Fail> {
 fn decodes_a_stream(rt: HostRuntime) -> Result<(), Fail> {
     let bytes = bytes_of(rt.alloc(), &BYTES)?;
     let text = bytes_of(rt.alloc(), TEXT.as_bytes())?;
-    let units = units_of(rt.alloc(), &UNITS)?;
-    let length = Decoder::new().max_utf16_buffer_length(bytes.len());
+    let stream = decode_stream(rt.alloc(), Encoding::Utf8, &bytes, 1_000)?;
     assert!(rt;
-        length == Some(bytes.len().saturating_add(1)),
-        "the length for UTF-16"
+        stream.text == text && stream.replaced == COPIES,
+        "in pieces of 1,000"
     );
-    let mut room = Vec::new(rt.alloc());
-    room.resize(length.unwrap_or(0), 0u16)?;
-    let (ends, read, written, replaced) = Decoder::new().decode_to_utf16(&bytes, &mut room, true);
+    let stream = decode_stream(rt.alloc(), Encoding::Utf8, &bytes, 2_000_000)?;
     assert!(rt;
-        ends == CoderResult::InputEmpty && read == bytes.len() && replaced,
+        stream.text == text && stream.replaced == COPIES,
+        "in one piece"
+    );
+    let mut decoder = Encoding::Utf8.new_decoder();
+    let mut room = Vec::new(rt.alloc());
+    let length = decoder.max_utf16_buffer_length(bytes.len());
+    room.resize(length.unwrap_or(0), 0u16)?;
+    let (ends, read, written, replaced) = decoder.decode_to_utf16(&bytes, &mut room, true);
+    assert!(rt;
+        ends == CoderResult::InputEmpty && read == bytes.len() && replaced == COPIES,
         "all of it to UTF-16"
     );
     room.truncate(written);
+    let units = units_of(rt.alloc(), &UNITS)?;
     assert!(rt; room == units, "to UTF-16");
-    let length = Decoder::new().max_utf8_buffer_length(bytes.len());
-    assert!(rt;
-        length == Some(bytes.len().saturating_mul(3).saturating_add(3)),
-        "the length for UTF-8"
-    );
-    let mut room = Vec::new(rt.alloc());
-    room.resize(length.unwrap_or(0), 0u8)?;
-    let (ends, read, written, replaced) = Decoder::new().decode_to_utf8(&bytes, &mut room, true);
-    assert!(rt;
-        ends == CoderResult::InputEmpty && read == bytes.len() && replaced,
-        "all of it to UTF-8"
-    );
-    room.truncate(written);
-    assert!(rt; room == text, "to UTF-8");
     Ok(())
 }
 
