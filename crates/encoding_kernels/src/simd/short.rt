@@ -33,11 +33,7 @@ pub(crate) fn pass_by_two<const N: usize, T: Lanes<N>>(text: &T) -> bool
     ensures { IsTrue result ↔ PassBetween (T.passes text.now) 0 (T.count text.now) }
 {
     let last = text.count() - N;
-    // a branch, not a value: callers jump on the result, and values of several lengths would have to be joined before
-    if !(text.pass(0) & text.pass(last)) {
-        return false;
-    }
-    true
+    text.pass(0) & text.pass(last)
 }
 
 /// Returns whether each of one, two or three units passes. May test a unit twice: a branch for each length costs more.
@@ -47,10 +43,7 @@ pub(crate) fn pass_few<T: Lanes<1>>(text: &T) -> bool
     ensures { IsTrue result ↔ PassBetween (T.passes text.now) 0 (T.count text.now) }
 {
     let (middle, last) = (text.count() / 2, text.count() - 1);
-    if !(text.pass(0) & text.pass(middle) & text.pass(last)) {
-        return false;
-    }
-    true
+    text.pass(0) & text.pass(middle) & text.pass(last)
 }
 
 /// Returns whether all units of a short text pass.
