@@ -68,7 +68,7 @@ module _ {A : Type 0} {order : ByteOrder} {encode : ℕ → List A} {need : ℕ}
         absurd (omega (arith, little.1, ap length (call.out_is ∙ ap (flat_map encode) none)))
   ]
 
-  -- each code unit makes at most so many of the output
+  -- each code unit makes at most `most` units of the output
   module _ (most : ℕ) (short : (cs : List ℕ) → all_scalars cs ≡ true → length (flat_map encode cs) ≤ most * length (flat_map encode_utf16 cs)) where
     counts : (result : DecoderResult) → DecodeUtf16Step order encode need p src room last result read out q
         → Counts p src room need most last result read (length out) q

@@ -72,7 +72,7 @@ pub record Reports {A : Type 0} (encode : ℕ → List A) (need : ℕ) (query re
   pub between_reports : SufficesReporting replacing old src (length dst) last result read written new
   pub replaced : SufficesBetweenReports replacing (length (encode 0xFFFD)) old src (length dst) last result read written new
 
--- the result, with so many bytes read after the malformed sequence
+-- the result, with `rest` bytes read after the malformed sequence
 abbrev pub reported_with : DecoderResult → ℕ → DecoderResult
 reported_with InputEmpty rest = InputEmpty
 reported_with OutputFull rest = OutputFull

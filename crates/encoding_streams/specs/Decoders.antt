@@ -60,7 +60,7 @@ pub record YieldParts (before after : Encoding × List ℕ) (parts : List Part) 
 abbrev pub lossy_text : {A : Type 0} → (ℕ → List A) → List Part → List A
 lossy_text encode parts = flat_map (λ part. encode (lossy_scalar part)) parts
 
--- the code units are the text of the first parts of what is left, and U+FFFD was written for so many of them
+-- the code units are the text of the first parts of what is left, with U+FFFD for each of `replaced` malformed sequences
 pub record YieldText {A : Type 0} (encode : ℕ → List A) (before after : Encoding × List ℕ) (out : List A) (replaced : ℕ) : Type 0 where
   pub parts : List Part
   pub yields : YieldParts before after parts
