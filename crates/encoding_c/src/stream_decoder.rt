@@ -109,9 +109,13 @@ fn bom_number(bom: BomHandling) -> u8
 }
 
 /// Returns the decoder that the storage represents.
-fn restored(state: EncodingDecoder) -> Decoder
-    ensures { RepresentsDecoder state result }
+fn restored(state: &EncodingDecoder) -> Decoder
+    ensures { RepresentsDecoder state.now result }
 {
+    // most calls continue a stream of UTF-8 with nothing pending
+    if state.count == 0 && state.encoding == UTF_8 && state.bom == BOM_OFF {
+        return Encoding::Utf8.new_decoder_without_bom_handling();
+    }
     let encoding = encoding_of(state.encoding);
     let bom = bom_of(state.bom);
     if state.count > MAX_PENDING {
@@ -184,7 +188,7 @@ pub extern "C" fn encoding_text_decoder_encoding(decoder: &EncodingDecoder) -> u
     ensures { (d : DecoderState) × RepresentsDecoder decoder.now d
         × IsEncodingNumber result d.encoding × (result ≤ 2) }
 {
-    encoding_number(restored(*decoder).encoding())
+    encoding_number(restored(decoder).encoding())
 }
 
 /// Returns whether nothing is pending and no mark is looked for.
@@ -193,7 +197,7 @@ pub extern "C" fn encoding_text_decoder_in_neutral_state(decoder: &EncodingDecod
     ensures { (d : DecoderState) × RepresentsDecoder decoder.now d
         × (IsTrue result ↔ ((d.bom ≡ BomHandling.Off) × (d.pending ≡ []))) }
 {
-    let inner = restored(*decoder);
+    let inner = restored(decoder);
     let (_, count) = inner.pending();
     count == 0 && bom_number(inner.bom_handling()) == BOM_OFF
 }
@@ -211,7 +215,7 @@ pub extern "C" fn encoding_text_decoder_max_utf16_buffer_length(
         → result ≡ queried max_utf16_length_in d byte_length)
         × (usize.MAX < byte_length + length d.pending + 1 → result ≡ usize.MAX) }
 {
-    let inner = restored(*decoder);
+    let inner = restored(decoder);
     match inner.max_utf16_buffer_length(byte_length) {
         Some(room) => room,
         None => INVALID_ARGUMENT,
@@ -228,7 +232,7 @@ pub extern "C" fn encoding_text_decoder_max_utf8_buffer_length(
     ensures { (d : DecoderState) × RepresentsDecoder decoder.now d
         × (result ≡ min (queried max_utf8_length_with_replacement_in d byte_length) usize.MAX) }
 {
-    let inner = restored(*decoder);
+    let inner = restored(decoder);
     match inner.max_utf8_buffer_length(byte_length) {
         Some(room) => room,
         None => INVALID_ARGUMENT,
@@ -245,7 +249,7 @@ pub extern "C" fn encoding_text_decoder_max_utf8_buffer_length_without_replaceme
     ensures { (d : DecoderState) × RepresentsDecoder decoder.now d
         × (result ≡ min (queried max_utf8_length_in d byte_length) usize.MAX) }
 {
-    let inner = restored(*decoder);
+    let inner = restored(decoder);
     match inner.max_utf8_buffer_length_without_replacement(byte_length) {
         Some(room) => room,
         None => INVALID_ARGUMENT,
@@ -265,7 +269,7 @@ pub extern "C" fn encoding_text_decoder_latin1_byte_compatible_up_to(
         × (((d.encoding ≡ Encoding.Utf8) × (d.bom ≡ BomHandling.Off) × (d.pending ≡ []) → ⊥)
         → result ≡ usize.MAX) }
 {
-    let inner = restored(*decoder);
+    let inner = restored(decoder);
     match inner.latin1_byte_compatible_up_to(src) {
         Some(length) => length,
         None => INVALID_ARGUMENT,
@@ -287,7 +291,7 @@ pub extern "C" fn encoding_text_decoder_decode_to_utf16(
         × SufficesReplacing max_utf16_length_in d src.now (length dst.old) last ended
         result.read result.written e) }
 {
-    let mut inner = restored(*decoder);
+    let mut inner = restored(decoder);
     let (ended, read, written, replaced) = inner.decode_to_utf16(src, dst, last);
     *decoder = stored(&inner);
     EncodingCoderResult {
@@ -314,7 +318,7 @@ pub extern "C" fn encoding_text_decoder_decode_to_utf16_without_replacement(
         × SufficesBetweenReports max_utf16_length_in 1 d src.now (length dst.old) last ended
         result.read result.written e) }
 {
-    let mut inner = restored(*decoder);
+    let mut inner = restored(decoder);
     let (ended, read, written) = inner.decode_to_utf16_without_replacement(src, dst, last);
     *decoder = stored(&inner);
     decoded(ended, read, written)
@@ -335,7 +339,7 @@ pub extern "C" fn encoding_text_decoder_decode_to_utf8(
         × SufficesReplacing max_utf8_length_with_replacement_in d src.now (length dst.old) last
         ended result.read result.written e) }
 {
-    let mut inner = restored(*decoder);
+    let mut inner = restored(decoder);
     let (ended, read, written, replaced) = inner.decode_to_utf8(src, dst, last);
     *decoder = stored(&inner);
     EncodingCoderResult {
@@ -362,7 +366,7 @@ pub extern "C" fn encoding_text_decoder_decode_to_utf8_without_replacement(
         × SufficesBetweenReports max_utf8_length_with_replacement_in (length (encode_utf8 0xFFFD)) d
         src.now (length dst.old) last ended result.read result.written e) }
 {
-    let mut inner = restored(*decoder);
+    let mut inner = restored(decoder);
     let (ended, read, written) = inner.decode_to_utf8_without_replacement(src, dst, last);
     *decoder = stored(&inner);
     decoded(ended, read, written)
