@@ -7,6 +7,7 @@ pub mod CompressTableLemmas
 pub mod CopyLemmas
 pub mod CountLemmas
 pub mod GroupLemmas
+pub mod JoinedLemmas
 pub mod Latin1FromUtf8Lemmas
 pub mod Latin1ToUtf8Lemmas
 pub mod LengthLemmas

@@ -9,7 +9,7 @@ use lib.Count.{count_trailing_zeros}
 use mir.Syntax.{Width}
 use mir.Val.{bits, hbits}
 use Rattle.encoding_kernels.specs.Scans.{HasLanes, Marks}
-use Rattle.encoding_kernels.proofs.VectorLemmas.{HasLanes_load, HasLanes-zip2, HasLanes-splat, HasLanes-select, HasLanes_same, compared, top_compared, mask_of, mask_is, IsFirstSet, first_set, first_none, no_bit_from, HasLanes-itself, sixteen_lanes}
+use Rattle.encoding_kernels.proofs.VectorLemmas.{HasLanes_load, HasLanes-zip2, HasLanes-splat, HasLanes-select, HasLanes_same, compared, top_compared, mask_of, mask_is, IsFirstSet, first_set, first_none, no_bit_from, HasLanes-itself, narrow, sixteen_lanes}
 use Rattle.std.proofs.lemmas.Nat.{le_or_l, le_or_r, and_le_l}
 use Rattle.std.proofs.lemmas.List.{get_or_past}
 use Rattle.std.proofs.lemmas.Nat.Bits.{and_high_mask}
@@ -144,16 +144,41 @@ number_zero [] e k = get_or_past {X = ℕ} [] k 0 (omega arith)
 number_zero (x ∷ xs) e zero = omega (arith, e)
 number_zero (x ∷ xs) e (suc k) = number_zero xs (omega (arith, e)) k
 
-pub zero_words : (xs : List ℕ) → Each1 (Fits w8) xs → joined 0 (digits_l (2 ^ 64) 4 (number_l 256 xs)) ≡ 0 → IsZeroTo xs 32
-zero_words xs fits none = record {
+pub zero_words : (n : ℕ) (xs : List ℕ) → Each1 (Fits w8) xs → joined 0 (digits_l (2 ^ 64) n (number_l 256 xs)) ≡ 0 → IsZeroTo xs (8 * n)
+zero_words n xs fits none = record {
   each = λ i l.
       let fit : Each1 (λ x. x < 256) xs = Each1-from_get_or (λ x. x < 256) xs 0 (λ k l. (Each1-get_or (Fits w8) xs k 0 l fits).fits) in
       let j = i / 8 in
-      let word : get_or (digits_l (2 ^ 64) 4 (number_l 256 xs)) j 0 ≡ 0 = omega (arith, above_each 0 (digits_l (2 ^ 64) 4 (number_l 256 xs)) j, none) in
-      let part = number_zero (chunk (8 * j) 8 xs) (sym (get_or_wider 256 8 (2 ^ 64) 4 xs j refl fit (omega arith)) ∙ word) (i % 8) in
+      let word : get_or (digits_l (2 ^ 64) n (number_l 256 xs)) j 0 ≡ 0 = omega (arith, above_each 0 (digits_l (2 ^ 64) n (number_l 256 xs)) j, none) in
+      let part = number_zero (chunk (8 * j) 8 xs) (sym (get_or_wider 256 8 (2 ^ 64) n xs j refl fit (omega arith)) ∙ word) (i % 8) in
       let place : i ≡ 8 * j + i % 8 = omega arith in
       ap (λ k. get_or xs k 0) place ∙ sym (get_or-chunk (8 * j) 8 xs (i % 8) 0 (omega arith)) ∙ part;
 }
+
+zero_number : (p n : ℕ) (xs : List ℕ) → length xs ≡ n → IsZeroTo xs n → number_l p xs ≡ 0
+zero_number p n [] long zeros = refl
+zero_number p n (x ∷ xs) long zeros =
+    let rest : number_l p xs ≡ 0 = zero_number p (n - 1) xs (omega (arith, long)) (record { each = λ k l. zeros.each (suc k) (omega (arith, long)) }) in
+    let first : x ≡ 0 = zeros.each zero (omega (arith, long)) in
+    rw (first, rest) omega arith
+
+pub words_zero : (xs : List ℕ) → length xs ≡ 32 → IsZeroTo xs 32 → joined 0 (digits_l (2 ^ 64) 4 (number_l 256 xs)) ≡ 0
+words_zero xs long zeros = rw (zero_number 256 32 xs long zeros) refl
+
+pub block_words_zero : (xs : List ℕ) → length xs ≡ 64 → IsZeroTo xs 64 → joined 0 (digits_l (2 ^ 64) 8 (number_l 256 xs)) ≡ 0
+block_words_zero xs long zeros = rw (zero_number 256 64 xs long zeros) refl
+
+-- the bytes of 32 code units
+pub unit_bytes_zero : (us : List ℕ) (f : ℕ → ℕ) → HasLanes 32 us f → ((k : ℕ) → k < 32 → f k < 65536)
+    → IsZeroTo (digits_l 256 64 (number_l 65536 us)) 64 ↔ IsZeroTo us 32
+unit_bytes_zero us f lanes small = (
+  λ zeros. record {
+    each = λ k l.
+        let bytes = narrow 32 us f lanes small k l in
+        omega (arith, lanes.each k l, bytes.0, bytes.1, zeros.each (2 * k) (omega arith), zeros.each (2 * k + 1) (omega arith));
+  },
+  λ zeros. rw (zero_number 65536 32 us lanes.long zeros) record { each = (HasLanes-splat 64 0).each },
+)
 
 module _ (us : List ℕ) (long : length us ≡ 16) (fit : Each1 (Fits w16) us) where
   abbrev pub bits_of : ℕ → List ℕ

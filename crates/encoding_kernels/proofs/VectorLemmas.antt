@@ -258,7 +258,7 @@ pub wide_sixteen : (bs : List ℕ) → length bs ≡ 32 → Each1 (λ x. x < 256
 wide_sixteen bs long fit = widened 16 bs long refl fit
 
 -- the bytes of n words
-narrow : (n : ℕ) (words : List ℕ) (f : ℕ → ℕ) → HasLanes n words f → ((k : ℕ) → k < n → f k < 65536) → (k : ℕ) → k < n
+pub narrow : (n : ℕ) (words : List ℕ) (f : ℕ → ℕ) → HasLanes n words f → ((k : ℕ) → k < n → f k < 65536) → (k : ℕ) → k < n
     → (get_or (digits_l 256 (2 * n) (number_l 65536 words)) (2 * k) 0 ≡ f k % 256)
     × (get_or (digits_l 256 (2 * n) (number_l 65536 words)) (2 * k + 1) 0 ≡ f k / 256)
 narrow n words f lanes small k l =

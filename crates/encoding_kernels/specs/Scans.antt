@@ -2,6 +2,7 @@
 -- units are below a bound.
 use Rattle.std.specs.Prelude.{◌≡◌, ℕ, ◌<◌, List, length, slice_index, ◌+◌, ◌≤◌, ◌↔◌}
 use lib.Count.{count_trailing_zeros}
+use Rattle.encoding_kernels.specs.Following.{IsZeroTo}
 
 -- there are n lanes, and lane k is f k
 pub record HasLanes (n : ℕ) (lanes : List ℕ) (f : ℕ → ℕ) : Type 0 where
@@ -39,3 +40,8 @@ BelowUpTo bound xs place = (k : ℕ) → k < place → slice_index xs k < bound
 -- `IsPassRun` for the units below the bound
 abbrev pub IsRunBelow : ℕ → List ℕ → ℕ → ℕ → ℕ → Type 0
 IsRunBelow bound xs = IsPassRun (λ k. slice_index xs k < bound)
+
+-- the lanes are all zero if and only if each of the n units from `at` on is below the bound
+pub record JoinsOthers (bound : ℕ) (xs : List ℕ) (at n : ℕ) (lanes : List ℕ) : Type 0 where
+  pub long : length lanes ≡ 32
+  pub zero : IsZeroTo lanes 32 ↔ AllBelow bound xs at n

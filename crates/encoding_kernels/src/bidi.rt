@@ -3,7 +3,7 @@ ghost use Rattle.std.specs.Prelude.{◌≡◌, false, ◌+◌, ◌-◌, ◌≤�
 ghost use Rattle.encoding_kernels.specs.RightToLeft.{rtl_second_end, rtl_mark_lead, may_start_rtl, HasNoRtlAt, NoRtlIn, NoneRightToLeft, may_be_right_to_left};
 ghost use Rattle.encoding_kernels.specs.Scans.{HasLanes};
 
-use crate::simd::scan::{LanePredicate, UnitsBelow, reach, skip};
+use crate::simd::scan::{LanePredicate, UnitsBelow, reach, skip, skip_joined};
 use crate::simd::width::{BLOCK, HALF_UNIT_BLOCK, STRIDE, UNIT_STRIDE};
 use crate::tuning::{LOW_BYTES, LOW_UNITS, MOST_BYTE_BLOCKS, MOST_UNIT_BLOCKS};
 use byte_lookups::are_64_clear;
@@ -217,7 +217,7 @@ pub fn skip_clear_units(units: &[u16], from: usize) -> usize
         if at < end {
             break;
         }
-        let next = skip::<HALF_UNIT_BLOCK, HALF_UNIT_BLOCK, _>(&low, at, units.len());
+        let next = skip_joined::<HALF_UNIT_BLOCK, _>(&low, at, units.len());
         blocks = if next - at < LOW_UNITS {
             (blocks + 1).min(MOST_UNIT_BLOCKS)
         } else {

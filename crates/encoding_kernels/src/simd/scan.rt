@@ -6,6 +6,7 @@ ghost use lib.Count.{count_trailing_zeros};
 ghost use Rattle.encoding_kernels.specs.Following.{IsZeroTo};
 ghost use Rattle.encoding_kernels.specs.Scans.{PassBetween, IsPassRun, Marks, AllBelow, IsRunBelow, BelowUpTo};
 
+use crate::simd::joined::{are_32_units_below, are_64_below, are_256_below};
 use crate::simd::width::{BLOCK, FOUR_BLOCKS, HALF_STRIDE, HALF_UNIT_BLOCK, STRIDE, UNIT_STRIDE};
 use std::simd::Simd;
 use std::simd::prelude::*;
@@ -96,6 +97,40 @@ pub(crate) fn skip<const N: usize, const W: usize, T: LanePredicate<N>>(
     at
 }
 
+/// A test of W indices at once, by one vector that all comparisons are joined into.
+pub(crate) trait JoinedPredicate<const W: usize> {
+    ghost count: { Self → ℕ };
+
+    ghost passes: { Self → ℕ → Type 0 };
+
+    /// Returns whether each of the W indices from `at` on passes.
+    fn all_pass(&self, at: usize) -> bool
+        requires { at + W ≤ count self.now }
+        ensures { IsTrue result ↔ PassBetween (passes self.now) at (at + W) };
+}
+
+/// Skips indices as `skip` does, by a joined test.
+#[inline(always)]
+pub(crate) fn skip_joined<const W: usize, T: JoinedPredicate<W>>(
+    test: &T,
+    from: usize,
+    end: usize,
+) -> usize
+    requires { (from ≤ end) × (end ≤ T.count test.now) × (0 < W) }
+    ensures within { (from ≤ result) × (result ≤ end) }
+    ensures pass { PassBetween (T.passes test.now) from result }
+    ensures stops { result + W ≤ end → PassBetween (T.passes test.now) result (result + W) → ⊥ }
+{
+    if end < W {
+        return from;
+    }
+    let mut at = from;
+    while at <= end - W && test.all_pass(at) {
+        at += W;
+    }
+    at
+}
+
 /// Skips as far as `skip`, or to `end` if the last W indices before it pass too. These may overlap the ones before.
 #[inline(always)]
 pub(crate) fn reach<const N: usize, const W: usize, T: LanePredicate<N>>(
@@ -157,6 +192,28 @@ impl<'a, const N: usize> LanePredicate<N> for BytesBelow<'a> {
     }
 }
 
+impl<'a> JoinedPredicate<BLOCK> for BytesBelow<'a> {
+    ghost count = { λ s. length s.bytes.now };
+
+    ghost passes = { λ s k. slice_index s.bytes.now k < s.bound };
+
+    #[inline(always)]
+    fn all_pass(&self, at: usize) -> bool {
+        are_64_below(self.bytes, at, self.bound)
+    }
+}
+
+impl<'a> JoinedPredicate<FOUR_BLOCKS> for BytesBelow<'a> {
+    ghost count = { λ s. length s.bytes.now };
+
+    ghost passes = { λ s k. slice_index s.bytes.now k < s.bound };
+
+    #[inline(always)]
+    fn all_pass(&self, at: usize) -> bool {
+        are_256_below(self.bytes, at, self.bound)
+    }
+}
+
 /// UTF-16 code units that are below a bound.
 #[derive(Drop)]
 pub struct UnitsBelow<'a> {
@@ -174,6 +231,17 @@ impl<'a, const N: usize> LanePredicate<N> for UnitsBelow<'a> {
         let units = self.units;
         let others = Simd::<u16, N>::from_slice(&units[at..]).simd_ge(Simd::splat(self.bound));
         others.to_bitmask()
+    }
+}
+
+impl<'a> JoinedPredicate<HALF_UNIT_BLOCK> for UnitsBelow<'a> {
+    ghost count = { λ s. length s.units.now };
+
+    ghost passes = { λ s k. slice_index s.units.now k < s.bound };
+
+    #[inline(always)]
+    fn all_pass(&self, at: usize) -> bool {
+        are_32_units_below(self.units, at, self.bound)
     }
 }
 
@@ -201,7 +269,7 @@ pub fn are_four_blocks_below(bytes: &[u8], bound: u8) -> bool
     requires { length bytes.now ≡ 256 }
     ensures { IsTrue result ↔ AllBelow bound bytes.now 0 256 }
 {
-    all::<BLOCK, FOUR_BLOCKS, _>(&BytesBelow { bytes, bound }, 0)
+    are_256_below(bytes, 0, bound)
 }
 
 /// Returns how many of the N bytes from `at` on precede the first that isn't below the bound.
@@ -252,7 +320,7 @@ pub fn prefix_after_stride(bytes: &[u8], bound: u8) -> usize
     if bytes.len() < BLOCK {
         return find::<STRIDE, _>(&test, STRIDE, bytes.len());
     }
-    let by_blocks = skip::<BLOCK, FOUR_BLOCKS, _>(&test, 0, bytes.len());
+    let by_blocks = skip_joined::<FOUR_BLOCKS, _>(&test, 0, bytes.len());
     find::<BLOCK, _>(&test, by_blocks, bytes.len())
 }
 
@@ -311,15 +379,6 @@ pub(crate) fn is_zero(lanes: u8x32) -> bool
     ensures { IsTrue result → IsZeroTo lanes 32 }
 {
     lanes.simd_ne(u8x32::splat(0)).to_bitmask() == 0
-}
-
-/// Returns whether each lane is zero, by words of 64 bits. ARM has no instruction for the mask that `is_zero` takes. x86-64 has,
-/// and often needs the mask of each vector anyway.
-#[inline(always)]
-pub(crate) fn is_zero_by_words(lanes: u8x32) -> bool
-    ensures { IsTrue result → IsZeroTo lanes 32 }
-{
-    u64x4::from_le_bytes(lanes).reduce_or() == 0
 }
 
 /// Returns how many lanes precede the first that isn't zero.

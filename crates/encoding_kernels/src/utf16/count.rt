@@ -6,7 +6,7 @@ ghost use Rattle.encoding_kernels.specs.Lengths.{sum_over_suffixes, is_surrogate
 ghost use Rattle.encoding_kernels.specs.Counts.{begins_pair, bool_few};
 ghost use mir.Val.{bool_byte};
 
-use crate::simd::scan::{UnitsBelow, skip};
+use crate::simd::scan::{UnitsBelow, skip_joined};
 use crate::simd::sum::{Terms, sum_from};
 use crate::simd::width::{HALF_UNIT_BLOCK, UNIT_STRIDE};
 use crate::tuning::UTF16_LENGTH_SPAN;
@@ -90,7 +90,7 @@ impl<'a, const N: usize> Terms<N> for Pairs<'a> {
             units,
             bound: FIRST_SURROGATE,
         };
-        skip::<HALF_UNIT_BLOCK, HALF_UNIT_BLOCK, _>(&single, at, end)
+        skip_joined::<HALF_UNIT_BLOCK, _>(&single, at, end)
     }
 
     ghost inside = { λ s. fewer (length s.units.now) 1 };

@@ -4,7 +4,7 @@ ghost use Rattle.encoding_definitions.specs.Utf16.{IsUtf8OfUnits};
 ghost use Rattle.encoding_kernels.specs.Scans.{BelowUpTo, HasLanes};
 ghost use Rattle.encoding_kernels.specs.Lengths.{extra_bytes, extra_bytes_by, extra_bytes_few, fewer};
 
-use crate::simd::scan::{UnitsBelow, skip};
+use crate::simd::scan::{UnitsBelow, skip_joined};
 use crate::simd::short::pass_short;
 use crate::simd::sum::{Terms, sum_from};
 use crate::simd::width::{BASIC_LATIN_END, HALF_UNIT_BLOCK, UNIT_BLOCK, UNIT_STRIDE};
@@ -96,7 +96,7 @@ impl<'a, const N: usize> Terms<N> for Beyond<'a> {
             units,
             bound: BASIC_LATIN_END,
         };
-        skip::<HALF_UNIT_BLOCK, HALF_UNIT_BLOCK, _>(&ascii, at, end)
+        skip_joined::<HALF_UNIT_BLOCK, _>(&ascii, at, end)
     }
 
     ghost inside = { λ s. fewer (length s.units.now) 1 };

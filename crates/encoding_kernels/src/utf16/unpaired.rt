@@ -9,7 +9,7 @@ ghost use Rattle.encoding_kernels.specs.Neighbors.{pair_fault};
 ghost use mir.Val.{bool_byte};
 
 use crate::scalar::is_low_surrogate;
-use crate::simd::scan::{UnitsBelow, skip};
+use crate::simd::scan::{UnitsBelow, skip_joined};
 use crate::simd::sum::{Terms, sum_from};
 use crate::simd::width::{HALF_UNIT_BLOCK, UNIT_STRIDE};
 use crate::tuning::UTF16_LENGTH_SPAN;
@@ -93,7 +93,7 @@ impl<'a, const N: usize> Terms<N> for Faults<'a> {
             units,
             bound: FIRST_SURROGATE,
         };
-        let place = skip::<HALF_UNIT_BLOCK, HALF_UNIT_BLOCK, _>(&single, at, end);
+        let place = skip_joined::<HALF_UNIT_BLOCK, _>(&single, at, end);
         if at < place { place - 1 } else { at }
     }
 

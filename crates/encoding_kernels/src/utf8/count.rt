@@ -6,7 +6,7 @@ ghost use Rattle.encoding_kernels.specs.Lengths.{sum_over_suffixes, fewer};
 ghost use Rattle.encoding_kernels.specs.Counts.{is_four_bytes, begins_four_bytes, bool_few};
 ghost use mir.Val.{bool_byte};
 
-use crate::simd::scan::{BytesBelow, prefix_len_below, skip};
+use crate::simd::scan::{BytesBelow, prefix_len_below, skip_joined};
 use crate::simd::sum::{Terms, sum_from};
 use crate::simd::width::{BLOCK, HALF_STRIDE};
 use crate::tuning::UTF8_LENGTH_SPAN;
@@ -108,7 +108,7 @@ impl<'a, const N: usize> Terms<N> for FourBytes<'a> {
             bytes,
             bound: FOUR_BYTE_LEAD,
         };
-        skip::<BLOCK, BLOCK, _>(&shorter, at, end)
+        skip_joined::<BLOCK, _>(&shorter, at, end)
     }
 
     ghost inside = { λ s. fewer (length s.bytes.now) 3 };
