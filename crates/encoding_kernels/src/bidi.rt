@@ -3,7 +3,8 @@ ghost use Rattle.std.specs.Prelude.{◌≡◌, false, ◌+◌, ◌-◌, ◌≤�
 ghost use Rattle.encoding_kernels.specs.RightToLeft.{rtl_second_end, rtl_mark_lead, may_start_rtl, HasNoRtlAt, NoRtlIn, NoneRightToLeft, may_be_right_to_left};
 ghost use Rattle.encoding_kernels.specs.Scans.{HasLanes};
 
-use crate::simd::scan::{LanePredicate, UnitsBelow, reach, skip, skip_joined};
+use crate::simd::joined::skip_joined;
+use crate::simd::scan::{LanePredicate, UnitsBelow, reach, skip};
 use crate::simd::width::{BLOCK, HALF_UNIT_BLOCK, STRIDE, UNIT_STRIDE};
 use crate::tuning::{LOW_BYTES, LOW_UNITS, MOST_BYTE_BLOCKS, MOST_UNIT_BLOCKS};
 use byte_lookups::are_64_clear;

@@ -2,7 +2,7 @@
 
 pub(crate) mod compress;
 pub mod copy;
-pub(crate) mod joined;
+pub mod joined;
 pub(crate) mod lookup;
 pub mod scan;
 pub mod short;

@@ -1,12 +1,69 @@
 //! Tests of many bytes or code units at once, by one vector that the comparisons of all are joined into. It is compared with zero by
 //! words of 64 bits. ARM has no instruction for the mask of a vector, and x86-64 tests words as fast as masks.
 
-ghost use Rattle.std.specs.Prelude.{◌+◌, ◌≤◌, ◌↔◌, IsTrue, length};
+ghost use Rattle.std.specs.Prelude.{◌≡◌, ℕ, ◌+◌, ◌<◌, ◌≤◌, ◌↔◌, IsTrue, length};
 ghost use Rattle.encoding_kernels.specs.Following.{IsZeroTo};
-ghost use Rattle.encoding_kernels.specs.Scans.{JoinsOthers, AllBelow};
+ghost use Rattle.encoding_kernels.specs.Scans.{PassBetween, JoinsOthers, AllBelow};
 
 use crate::simd::width::{HALF_BLOCK, TWO_BLOCKS};
 use std::simd::prelude::*;
+
+/// A test of W indices at once, by one vector that all comparisons are joined into.
+pub trait JoinedPredicate<const W: usize> {
+    ghost count: { Self → ℕ };
+
+    ghost passes: { Self → ℕ → Type 0 };
+
+    /// Returns whether each of the W indices from `at` on passes.
+    fn all_pass(&self, at: usize) -> bool
+        requires { at + W ≤ count self.now }
+        ensures { IsTrue result ↔ PassBetween (passes self.now) at (at + W) };
+}
+
+/// Skips W indices at a time from `from` on, no farther than `end`, while they pass, and returns the index that it
+/// reaches.
+#[inline(always)]
+pub(crate) fn skip_joined<const W: usize, T: JoinedPredicate<W>>(
+    test: &T,
+    from: usize,
+    end: usize,
+) -> usize
+    requires { (from ≤ end) × (end ≤ T.count test.now) × (0 < W) }
+    ensures within { (from ≤ result) × (result ≤ end) }
+    ensures pass { PassBetween (T.passes test.now) from result }
+    ensures stops { result + W ≤ end → PassBetween (T.passes test.now) result (result + W) → ⊥ }
+{
+    if end < W {
+        return from;
+    }
+    let mut at = from;
+    while at <= end - W && test.all_pass(at) {
+        at += W;
+    }
+    at
+}
+
+/// Skips as far as `skip_joined`, or to `end` if the last W indices before it pass too. These may overlap the ones before.
+#[inline(always)]
+pub(crate) fn reach_joined<const W: usize, T: JoinedPredicate<W>>(
+    test: &T,
+    from: usize,
+    end: usize,
+) -> usize
+    requires { (from ≤ end) × (end ≤ T.count test.now) × (0 < W) }
+    ensures within { (from ≤ result) × (result ≤ end) }
+    ensures pass { PassBetween (T.passes test.now) from result }
+    ensures whole { W ≤ end → PassBetween (T.passes test.now) 0 end → result ≡ end }
+{
+    let at = skip_joined::<W, T>(test, from, end);
+    if at == end {
+        return end;
+    }
+    if end - at < W && W <= end && test.all_pass(end - W) {
+        return end;
+    }
+    at
+}
 
 /// Returns whether each lane is zero.
 #[inline(always)]
@@ -60,7 +117,7 @@ pub(crate) fn are_256_below(bytes: &[u8], at: usize, bound: u8) -> bool
 
 /// Returns whether each of the 64 bytes from `at` on is below the bound.
 #[inline(always)]
-pub(crate) fn are_64_below(bytes: &[u8], at: usize, bound: u8) -> bool
+pub fn are_64_below(bytes: &[u8], at: usize, bound: u8) -> bool
     requires { at + 64 ≤ length bytes.now }
     ensures { IsTrue result ↔ AllBelow bound bytes.now at 64 }
 {

@@ -6,7 +6,9 @@ ghost use lib.Count.{count_trailing_zeros};
 ghost use Rattle.encoding_kernels.specs.Following.{IsZeroTo};
 ghost use Rattle.encoding_kernels.specs.Scans.{PassBetween, IsPassRun, Marks, AllBelow, IsRunBelow, BelowUpTo};
 
-use crate::simd::joined::{are_32_units_below, are_64_below, are_256_below};
+use crate::simd::joined::{
+    JoinedPredicate, are_32_units_below, are_64_below, are_256_below, reach_joined, skip_joined,
+};
 use crate::simd::width::{BLOCK, FOUR_BLOCKS, HALF_STRIDE, HALF_UNIT_BLOCK, STRIDE, UNIT_STRIDE};
 use std::simd::Simd;
 use std::simd::prelude::*;
@@ -92,40 +94,6 @@ pub(crate) fn skip<const N: usize, const W: usize, T: LanePredicate<N>>(
     // a loop that compares with a bound takes one instruction less than one that subtracts
     let mut at = from;
     while at <= end - W && all::<N, W, T>(test, at) {
-        at += W;
-    }
-    at
-}
-
-/// A test of W indices at once, by one vector that all comparisons are joined into.
-pub(crate) trait JoinedPredicate<const W: usize> {
-    ghost count: { Self → ℕ };
-
-    ghost passes: { Self → ℕ → Type 0 };
-
-    /// Returns whether each of the W indices from `at` on passes.
-    fn all_pass(&self, at: usize) -> bool
-        requires { at + W ≤ count self.now }
-        ensures { IsTrue result ↔ PassBetween (passes self.now) at (at + W) };
-}
-
-/// Skips indices as `skip` does, by a joined test.
-#[inline(always)]
-pub(crate) fn skip_joined<const W: usize, T: JoinedPredicate<W>>(
-    test: &T,
-    from: usize,
-    end: usize,
-) -> usize
-    requires { (from ≤ end) × (end ≤ T.count test.now) × (0 < W) }
-    ensures within { (from ≤ result) × (result ≤ end) }
-    ensures pass { PassBetween (T.passes test.now) from result }
-    ensures stops { result + W ≤ end → PassBetween (T.passes test.now) result (result + W) → ⊥ }
-{
-    if end < W {
-        return from;
-    }
-    let mut at = from;
-    while at <= end - W && test.all_pass(at) {
         at += W;
     }
     at
@@ -368,7 +336,7 @@ pub fn skip_units_below(units: &[u16], bound: u16) -> usize
     match units.len() {
         ..UNIT_STRIDE => skip::<1, 1, _>(&test, 0, units.len()),
         ..HALF_UNIT_BLOCK => reach::<UNIT_STRIDE, UNIT_STRIDE, _>(&test, 0, units.len()),
-        _ => reach::<HALF_UNIT_BLOCK, HALF_UNIT_BLOCK, _>(&test, 0, units.len()),
+        _ => reach_joined::<HALF_UNIT_BLOCK, _>(&test, 0, units.len()),
     }
 }
 

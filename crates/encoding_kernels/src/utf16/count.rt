@@ -6,7 +6,8 @@ ghost use Rattle.encoding_kernels.specs.Lengths.{sum_over_suffixes, is_surrogate
 ghost use Rattle.encoding_kernels.specs.Counts.{begins_pair, bool_few};
 ghost use mir.Val.{bool_byte};
 
-use crate::simd::scan::{UnitsBelow, skip_joined};
+use crate::simd::joined::skip_joined;
+use crate::simd::scan::UnitsBelow;
 use crate::simd::sum::{Terms, sum_from};
 use crate::simd::width::{HALF_UNIT_BLOCK, UNIT_STRIDE};
 use crate::tuning::UTF16_LENGTH_SPAN;

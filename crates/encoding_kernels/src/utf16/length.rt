@@ -4,7 +4,8 @@ ghost use Rattle.encoding_definitions.specs.Utf16.{IsUtf8OfUnits};
 ghost use Rattle.encoding_kernels.specs.Scans.{BelowUpTo, HasLanes};
 ghost use Rattle.encoding_kernels.specs.Lengths.{extra_bytes, extra_bytes_by, extra_bytes_few, fewer};
 
-use crate::simd::scan::{UnitsBelow, skip_joined};
+use crate::simd::joined::skip_joined;
+use crate::simd::scan::UnitsBelow;
 use crate::simd::short::pass_short;
 use crate::simd::sum::{Terms, sum_from};
 use crate::simd::width::{BASIC_LATIN_END, HALF_UNIT_BLOCK, UNIT_BLOCK, UNIT_STRIDE};

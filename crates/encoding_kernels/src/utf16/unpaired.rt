@@ -9,7 +9,8 @@ ghost use Rattle.encoding_kernels.specs.Neighbors.{pair_fault};
 ghost use mir.Val.{bool_byte};
 
 use crate::scalar::is_low_surrogate;
-use crate::simd::scan::{UnitsBelow, skip_joined};
+use crate::simd::joined::skip_joined;
+use crate::simd::scan::UnitsBelow;
 use crate::simd::sum::{Terms, sum_from};
 use crate::simd::width::{HALF_UNIT_BLOCK, UNIT_STRIDE};
 use crate::tuning::UTF16_LENGTH_SPAN;

@@ -6,7 +6,8 @@ ghost use Rattle.encoding_kernels.specs.Lengths.{sum_over_suffixes, fewer};
 ghost use Rattle.encoding_kernels.specs.Counts.{is_four_bytes, begins_four_bytes, bool_few};
 ghost use mir.Val.{bool_byte};
 
-use crate::simd::scan::{BytesBelow, prefix_len_below, skip_joined};
+use crate::simd::joined::skip_joined;
+use crate::simd::scan::{BytesBelow, prefix_len_below};
 use crate::simd::sum::{Terms, sum_from};
 use crate::simd::width::{BLOCK, HALF_STRIDE};
 use crate::tuning::UTF8_LENGTH_SPAN;

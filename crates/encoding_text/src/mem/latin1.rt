@@ -11,7 +11,7 @@ use encoding_kernels::latin1::to_utf8::{
 };
 use encoding_kernels::scalar::write_scalar;
 use encoding_kernels::simd::copy::{copy_prefix, pack_lower, unpack_part};
-use encoding_kernels::simd::scan::are_bytes_below;
+use encoding_kernels::simd::joined::are_64_below;
 use encoding_kernels::simd::width::{ASCII_END, BLOCK, HALF_STRIDE, STRIDE, TWO_BLOCKS};
 use std::simd::prelude::*;
 
@@ -60,7 +60,7 @@ fn convert_latin1_blocks(src: &[u8], dst: &mut [u8]) -> (usize, usize)
     let mut read = 0;
     let mut written = 0;
     while src.len() - read >= BLOCK && dst.len() - written >= 2 * BLOCK {
-        if are_bytes_below::<BLOCK>(src, read, ASCII_END) {
+        if are_64_below(src, read, ASCII_END) {
             return (read, written);
         }
         written += write_latin1_block(src, read, dst, written);

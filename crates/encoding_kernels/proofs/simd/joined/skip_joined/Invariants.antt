@@ -1,6 +1,6 @@
 use Rattle.std.proofs.Common.{◌-◌, ◌≤◌}
 use Rattle.encoding_kernels.specs.Scans.{PassBetween}
-use Rattle.encoding_kernels.proofs.simd.scan.skip_joined.Given as goal
+use Rattle.encoding_kernels.proofs.simd.joined.skip_joined.Given as goal
 
 abbrev pub invariant-loop-at : goal.invariant-loop-at
 invariant-loop-at g l = record {
