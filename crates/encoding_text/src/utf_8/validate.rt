@@ -37,14 +37,20 @@ fn well_formed_prefix(src: &[u8]) -> usize
     well_formed_blocks(src, ascii)
 }
 
-/// Returns the length of the longest well-formed prefix, given that the first `known` bytes are one. A turn takes a character, and
-/// then a well-formed prefix of what is left.
+/// Returns the length of the longest well-formed prefix, given that the first `known` bytes are one. If there are more than 64,
+/// these are ASCII, and vectors validate the blocks after them. Then a turn takes a character, and a well-formed prefix of what is
+/// left. Out of line, so that its callers save no registers.
 #[inline(never)]
 fn valid_after(src: &[u8], known: usize) -> usize
-    requires { (known ≤ length src.now) × IsUtf8 (take known src.now) }
+    requires within { known ≤ length src.now }
+    requires text { length src.now ≤ 64 → IsUtf8 (take known src.now) }
+    requires ascii { 64 < length src.now → BelowUpTo ASCII_END src.now known }
     ensures { IsLongestPrefix IsUtf8 src.now result }
 {
     let mut at = known;
+    if src.len() > SHORT {
+        at = well_formed_blocks(src, known);
+    }
     loop {
         let Some(length) = character_length(&src[at..]) else {
             return at;
@@ -52,17 +58,6 @@ fn valid_after(src: &[u8], known: usize) -> usize
         at += length;
         at += well_formed_prefix(&src[at..]);
     }
-}
-
-/// Returns the length of the longest well-formed prefix of more than 64 bytes, of which the first `ascii` are ASCII. Out of line,
-/// so that `long_valid_up_to` saves no registers.
-#[inline(never)]
-fn valid_after_ascii(src: &[u8], ascii: usize) -> usize
-    requires long { 64 < length src.now }
-    requires ascii { (ascii ≤ length src.now) × BelowUpTo ASCII_END src.now ascii }
-    ensures { IsLongestPrefix IsUtf8 src.now result }
-{
-    valid_after(src, well_formed_blocks(src, ascii))
 }
 
 /// Returns the length of the longest well-formed prefix of 8 to 64 bytes that aren't all ASCII, by one or two vectors. If
@@ -101,13 +96,13 @@ fn long_valid_up_to(src: &[u8]) -> usize
         if First::begins_none(&src[first..]) {
             return first;
         }
-        return valid_after_ascii(src, first);
+        return valid_after(src, first);
     }
     if src.len() <= TWO_WIDEST_VECTORS {
         if is_short(src) {
             return src.len();
         }
-        return valid_after_ascii(src, BLOCK);
+        return valid_after(src, BLOCK);
     }
     let ascii = ascii_valid_up_to_by_length::<BLOCK, false>(src);
     if ascii == src.len() {
@@ -116,7 +111,7 @@ fn long_valid_up_to(src: &[u8]) -> usize
     if First::begins_none(&src[ascii..]) {
         return ascii;
     }
-    valid_after_ascii(src, ascii)
+    valid_after(src, ascii)
 }
 
 /// Returns the length of the longest well-formed prefix of at most 64 bytes that aren't all ASCII. Out of line, so that only the

@@ -21,10 +21,8 @@ pub returns-then-ascii-src : goal.returns-then-ascii-src
 returns-then-ascii-src c =
     whole_prefix_text c.args.src.now c.ascii_valid_up_to_by_length-ascii.result c.ascii_valid_up_to_by_length-ascii.ensures c.if-ascii-src.true
 
-pub valid_after_ascii-requires-2-clause-ascii : goal.valid_after_ascii-requires-2-clause-ascii
-valid_after_ascii-requires-2-clause-ascii c =
-    let prefix = c.ascii_valid_up_to_by_length-ascii.ensures in
-    (prefix.within, below_prefix _ _ prefix)
+pub valid_after-requires-2-clause-ascii : goal.valid_after-requires-2-clause-ascii
+valid_after-requires-2-clause-ascii c _ = below_prefix _ _ c.ascii_valid_up_to_by_length-ascii.ensures
 
 pub begins_none-requires-2-clause-not_empty : goal.begins_none-requires-2-clause-not_empty
 begins_none-requires-2-clause-not_empty c =
