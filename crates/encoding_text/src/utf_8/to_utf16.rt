@@ -74,20 +74,6 @@ impl CodeUnit for u8 {
     }
 }
 
-/// Converts a text of at most 64 bytes to UTF-16, and returns how many code units it wrote. Two vectors copy it if it is ASCII.
-#[inline(always)]
-fn convert_short_text(src: &[u8], dst: &mut [u16]) -> usize
-    requires src_length { length src.now ≤ 64 }
-    requires dst_length { length src.now ≤ length dst.old }
-    requires text { IsUtf8 src.now }
-    ensures { WritesPrefix dst.old dst.new result (flat_map encode_utf16 (chars src.now)) }
-{
-    if write_short::<SHORT, _, _>(&BytesToUnits { src }, dst) {
-        return src.len();
-    }
-    convert_short(src, dst)
-}
-
 /// Converts at most 64 bytes to UTF-16 as `convert_utf8_to_utf16_up_to_invalid` does, if `dst` is at least as long. Two vectors
 /// copy ASCII. Otherwise the longest well-formed prefix of at least eight bytes is found first, and then converted.
 #[inline(always)]
@@ -107,7 +93,13 @@ fn convert_short_prefix(src: &[u8], dst: &mut [u16]) -> (usize, usize)
         return (valid, convert_short(src, dst));
     }
     // before a malformed sequence there is often only ASCII
-    (valid, convert_short_text(&src[..valid], dst))
+    let text = &src[..valid];
+    let written = if write_short::<SHORT, _, _>(&BytesToUnits { src: text }, dst) {
+        valid
+    } else {
+        convert_short(text, dst)
+    };
+    (valid, written)
 }
 
 /// Converts a text to UTF-16, and returns how many code units it wrote. A turn takes the ASCII prefix, and then other

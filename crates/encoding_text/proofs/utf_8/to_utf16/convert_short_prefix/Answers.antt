@@ -1,4 +1,4 @@
-use Rattle.std.proofs.Common.{◌≡◌, ℕ, List, arith, length, subst, sym, take}
+use Rattle.std.proofs.Common.{◌≡◌, ◌∙◌, ℕ, List, arith, length, length-take-le, subst, sym, take}
 use Rattle.std.specs.List.{flat_map}
 use Rattle.std.specs.Str.{IsUtf8, chars}
 use Rattle.std.proofs.lemmas.List.{take_all}
@@ -44,13 +44,25 @@ returns-then-valid-src c =
     subst (λ old. ConvertsMaximal encode_utf16 src old c.convert_short.new.dst found.result c.convert_short.result) same
     (converts_valid encode_utf16 _ _ _ _ _ found.ensures units)
 
-pub convert_short_text-requires-clause-text : goal.convert_short_text-requires-clause-text
-convert_short_text-requires-clause-text c = c.valid_up_to_by_vectors-valid.ensures.kind
+pub convert_short-written-requires-clause-text : goal.convert_short-written-requires-clause-text
+convert_short-written-requires-clause-text c = c.valid_up_to_by_vectors-valid.ensures.kind
 
-pub returns : goal.returns
-returns c =
+pub returns-then-write_short-2 : goal.returns-then-write_short-2
+returns-then-write_short-2 c =
+    let src = c.args.src.now in
+    let found = c.valid_up_to_by_vectors-valid in
     let same = c.write_short.ensures.unchanged c.if-write_short.false in
-    let all = converts_valid encode_utf16 _ _ _ _ _ c.valid_up_to_by_vectors-valid.ensures c.convert_short_text.ensures in
-    subst
-    (λ old. ConvertsMaximal encode_utf16 c.args.src.now old c.convert_short_text.new.dst c.valid_up_to_by_vectors-valid.result
-    c.convert_short_text.result) same all
+    let ascii = ascii_below (take found.result src) (c.write_short-2.ensures.pass.0 c.if-write_short-2.true) in
+    let units = ascii_written _ _ _ ascii (c.write_short-2.ensures.written c.if-write_short-2.true) in
+    subst (λ old. ConvertsMaximal encode_utf16 src old c.write_short-2.new.dst found.result found.result) same
+    (converts_valid encode_utf16 _ _ _ _ _ found.ensures
+    (subst (λ n. WritesPrefix c.write_short.new.dst c.write_short-2.new.dst n (flat_map encode_utf16 (chars (take found.result src))))
+    (length-take-le found.result src found.ensures.within) units))
+
+pub returns-else-write_short-2 : goal.returns-else-write_short-2
+returns-else-write_short-2 c =
+    let found = c.valid_up_to_by_vectors-valid in
+    let convert = c.convert_short-written in
+    let same = c.write_short-2.ensures.unchanged c.if-write_short-2.false ∙ c.write_short.ensures.unchanged c.if-write_short.false in
+    subst (λ old. ConvertsMaximal encode_utf16 c.args.src.now old convert.new.dst found.result convert.result) same
+    (converts_valid encode_utf16 _ _ _ _ _ found.ensures convert.ensures)
