@@ -45,19 +45,6 @@ fn copy_by_strides<const N: usize>(src: &[u8], dst: &mut [u8])
     copy::<N>(src, dst, last);
 }
 
-/// Copies one, two or three bytes to the start of `dst`. May copy a byte twice: a branch for each length costs more.
-#[inline(always)]
-pub(super) fn copy_few(src: &[u8], dst: &mut [u8])
-    requires few { (0 < length src.now) × (length src.now ≤ 3) }
-    requires dst_length { length src.now ≤ length dst.old }
-    ensures { WritesPrefix dst.old dst.new (length src.now) src.now }
-{
-    let (middle, last) = (src.len() / 2, src.len() - 1);
-    dst[0] = src[0];
-    dst[middle] = src[middle];
-    dst[last] = src[last];
-}
-
 /// Copies `src`, of at least four bytes, to the start of `dst`. Two vectors that may overlap are enough up to 64 bytes.
 #[inline]
 fn copy_many(src: &[u8], dst: &mut [u8])
@@ -75,7 +62,8 @@ fn copy_many(src: &[u8], dst: &mut [u8])
     }
 }
 
-/// Copies `src` to the start of `dst`. A few bytes are not worth a PLT call of the C library.
+/// Copies `src` to the start of `dst`. A few bytes are not worth a PLT call of the C library. One, two or three may be copied
+/// twice: a branch for each length costs more.
 #[inline(always)]
 pub fn copy_prefix(src: &[u8], dst: &mut [u8])
     requires { length src.now ≤ length dst.old }
@@ -83,7 +71,12 @@ pub fn copy_prefix(src: &[u8], dst: &mut [u8])
 {
     match src.len() {
         0 => {}
-        1..4 => copy_few(src, dst),
+        1..4 => {
+            let (middle, last) = (src.len() / 2, src.len() - 1);
+            dst[0] = src[0];
+            dst[middle] = src[middle];
+            dst[last] = src[last];
+        }
         _ => copy_many(src, dst),
     }
 }
@@ -136,22 +129,6 @@ pub fn write_first(dst: &mut [u8], at: usize, bytes: u8x16, count: usize)
         .copy_to_slice(&mut dst[at..]);
 }
 
-/// Writes the first `count` code units of a vector from `at` on. Stores sixteen, the others as `dst` has them.
-#[inline(always)]
-pub(crate) fn write_first_units(dst: &mut [u16], at: usize, units: u16x16, count: usize)
-    requires dst_length { at + 16 ≤ length dst.old }
-    requires units { (count ≤ 16) × (length units ≡ 16) }
-    ensures { dst.new ≡ take at dst.old ++ (take count units ++ drop (at + count) dst.old) }
-{
-    let following = u16x16::from_slice(&dst[at..]);
-    let is_kept = u8x16::from_array(LANES)
-        .cast::<u16>()
-        .simd_lt(u16x16::splat(count as u16));
-    is_kept
-        .select(units, following)
-        .copy_to_slice(&mut dst[at..]);
-}
-
 /// Copies the first `count` of the sixteen bytes from `at` on to the same index. Stores sixteen, the others as `dst` has
 /// them.
 #[inline(always)]
@@ -197,8 +174,7 @@ pub fn unpack_run(src: &[u8], dst: &mut [u16], at: usize, count: usize)
     if count == STRIDE {
         unpack::<STRIDE>(src, dst, at);
     } else {
-        let units = u8x16::from_slice(&src[at..]).cast::<u16>();
-        write_first_units(dst, at, units, count);
+        unpack_first(&src[at..], dst, at, count);
     }
 }
 
@@ -243,15 +219,21 @@ pub fn copy_first(stride: &[u8; STRIDE], dst: &mut [u8], at: usize, count: usize
     write_first(dst, at, u8x16::from_slice(stride), count);
 }
 
-/// Writes the first `count` bytes of a stride from `at` on, each as a UTF-16 code unit. Stores sixteen, the others as
-/// `dst` has them.
-#[tactic(auto, using(crate::proofs::VectorLemmas::whole_chunk))]
+/// Writes the first `count` bytes from `at` on, each as a UTF-16 code unit. Stores sixteen, the others as `dst` has them.
 #[inline(always)]
-pub fn unpack_first(stride: &[u8; STRIDE], dst: &mut [u16], at: usize, count: usize)
-    requires { (at + 16 ≤ length dst.old) × (count ≤ 16) }
-    ensures { dst.new ≡ take at dst.old ++ (take count stride.now ++ drop (at + count) dst.old) }
+pub fn unpack_first(src: &[u8], dst: &mut [u16], at: usize, count: usize)
+    requires within { (16 ≤ length src.now) × (at + 16 ≤ length dst.old) }
+    requires count { count ≤ 16 }
+    ensures { dst.new ≡ take at dst.old ++ (take count src.now ++ drop (at + count) dst.old) }
 {
-    write_first_units(dst, at, u8x16::from_slice(stride).cast::<u16>(), count);
+    let units = u8x16::from_slice(src).cast::<u16>();
+    let following = u16x16::from_slice(&dst[at..]);
+    let is_kept = u8x16::from_array(LANES)
+        .cast::<u16>()
+        .simd_lt(u16x16::splat(count as u16));
+    is_kept
+        .select(units, following)
+        .copy_to_slice(&mut dst[at..]);
 }
 
 /// Writes the first `count` code units of a stride, which are ASCII, from `at` on, each as a byte. Stores sixteen, the

@@ -1,11 +1,5 @@
-use Rattle.std.proofs.Common.{◌+◌, ◌++◌, drop, take, ap, ◌∙◌, map-id}
-use Rattle.std.proofs.lemmas.List.{take-take}
+use Rattle.std.proofs.lemmas.List.{take_rest}
 use Rattle.encoding_kernels.proofs.simd.copy.unpack_run.Goals as goal
 
 pub returns-else-count-eq-STRIDE : goal.returns-else-count-eq-STRIDE
-returns-else-count-eq-STRIDE c =
-    let old = c.args.dst.now in
-    let count = c.args.count in
-    c.write_first_units.ensures
-    ∙ ap (λ ys. take c.args.at old ++ (ys ++ drop (c.args.at + count) old))
-    (ap (take count) (map-id _) ∙ take-take count 16 (drop c.args.at c.args.src.now) c.requires.count)
+returns-else-count-eq-STRIDE c = rw (take_rest c.args.src.now c.args.at) at c.unpack_first.ensures

@@ -1,5 +1,5 @@
 use Rattle.std.proofs.Common.{◌≡◌, ℕ, ◌/◌, ◌-◌, ◌<◌, ◌≤◌, List, [], ◌∷◌, ◌++◌, length, drop, slice_index, slice_set, refl, arith}
-use Rattle.encoding_kernels.proofs.simd.copy.copy_few.Goals as goal
+use Rattle.encoding_kernels.proofs.simd.copy.copy_prefix.Goals as goal
 
 copied : (src dst : List ℕ) → 0 < length src → length src ≤ 3 → length src ≤ length dst
     → slice_set (slice_set (slice_set dst 0 (slice_index src 0)) (length src / 2) (slice_index src (length src / 2))) (length src - 1)
@@ -16,10 +16,9 @@ copied (a ∷ b ∷ c ∷ []) (x ∷ y ∷ []) some few room = absurd (omega (ar
 copied (a ∷ b ∷ c ∷ []) (x ∷ y ∷ z ∷ dst) some few room = refl
 copied (a ∷ b ∷ c ∷ d ∷ src) dst some few room = absurd (omega (arith, few))
 
-pub returns : goal.returns
-returns c = record {
+pub returns-in-1-to-3 : goal.returns-in-1-to-3
+returns-in-1-to-3 c = record {
   count = refl;
-  fits = c.requires.dst_length;
-  placed =
-      copied c.args.src.now c.args.dst.now c.requires.few.0 c.requires.few.1 c.requires.dst_length;
+  fits = c.requires;
+  placed = copied c.args.src.now c.args.dst.now (omega arith) (omega arith) c.requires;
 }
