@@ -128,17 +128,17 @@ fn write_group<const N: usize>(src: &[u8], dst: &mut [u16]) -> (usize, usize)
     ensures written { WritesUtf16 src.now dst.old dst.new result.0 result.1 (units_in src.now) }
 {
     let end = whole_end::<BLOCK, N>(src);
-    let mut written = write_stride::<N, 0, 8>(src, 0, 0, STRIDE, dst);
+    let mut written = write_stride::<N, 0, 8, STRIDE>(src, 0, 0, STRIDE, dst);
     for stride in 1..FOUR - 1 {
         let at = STRIDE * stride;
-        written += write_stride::<N, 3, 8>(src, at, 0, STRIDE, &mut dst[written..]);
+        written += write_stride::<N, 3, 8, STRIDE>(src, at, 0, STRIDE, &mut dst[written..]);
     }
     let last = BLOCK - STRIDE;
     // if no character has four bytes, no unit ends in the one that is cut
     let to = if N < 4 { STRIDE } else { end - last };
     (
         end,
-        written + write_stride::<N, 3, 8>(src, last, 0, to, &mut dst[written..]),
+        written + write_stride::<N, 3, 8, STRIDE>(src, last, 0, to, &mut dst[written..]),
     )
 }
 
@@ -164,39 +164,12 @@ fn write_with_pairs(src: &[u8], dst: &mut [u16]) -> (usize, usize)
     write_group::<4>(src, dst)
 }
 
-/// Writes the UTF-16 of the first characters of a text: of eight of three bytes each, or of those in the first 64 bytes, or of
-/// fewer: of the first sixteen if the last 48 are ASCII. Returns how many bytes it read, how many code units it wrote, and
-/// whether 48 bytes of ASCII follow. Units that the rest of the text overwrites may have changed too.
-#[inline(always)]
-fn convert_group(src: &[u8], dst: &mut [u16]) -> (usize, usize, bool)
-    requires dst_length { (88 ≤ length src.now) × (length src.now ≤ length dst.old) }
-    requires text { IsUtf8 src.now }
-    ensures progress { 0 < result.0 }
-    ensures written { WritesUtf16 src.now dst.old dst.new result.0 result.1 (units_in src.now) }
-{
-    if begins_triples(src) {
-        write_triples(src, UNITS, dst);
-        return (TRIPLES, UNITS, false);
-    }
-    let (is_short, before_ascii) = kinds_of_group(src);
-    if !is_short {
-        let (bytes, units) = write_with_pairs(src, dst);
-        return (bytes, units, false);
-    }
-    if before_ascii {
-        return (
-            STRIDE,
-            write_stride::<3, 0, 8>(src, 0, 0, STRIDE, dst),
-            true,
-        );
-    }
-    let (bytes, units) = write_group::<3>(src, dst);
-    (bytes, units, false)
-}
-
 /// Writes the UTF-16 of a text by groups of 64 bytes, until 48 bytes of ASCII follow or at most 87 bytes are left. Returns
 /// how many bytes it read and how many code units it wrote. Units that the rest of the text overwrites may have changed too.
 /// Out of line, since it needs many registers.
+///
+/// A turn takes eight characters of three bytes each, or those in the first 64 bytes, or those in the first sixteen if the last
+/// 48 are ASCII.
 #[inline(never)]
 pub(super) fn convert_groups(src: &[u8], dst: &mut [u16]) -> (usize, usize)
     requires dst_length { (88 ≤ length src.now) × (length src.now ≤ length dst.old) }
@@ -207,12 +180,32 @@ pub(super) fn convert_groups(src: &[u8], dst: &mut [u16]) -> (usize, usize)
     let mut read = 0;
     let mut written = 0;
     while src.len() - read >= GROUP_OF_TEXT {
-        let (bytes, units, before_ascii) = convert_group(&src[read..], &mut dst[written..]);
+        if begins_triples(&src[read..]) {
+            write_triples(&src[read..], UNITS, &mut dst[written..]);
+            read += TRIPLES;
+            written += UNITS;
+            continue;
+        }
+        let (is_short, before_ascii) = kinds_of_group(&src[read..]);
+        if !is_short {
+            let (bytes, units) = write_with_pairs(&src[read..], &mut dst[written..]);
+            read += bytes;
+            written += units;
+            continue;
+        }
+        if before_ascii {
+            written += write_stride::<3, 0, 8, STRIDE>(
+                &src[read..],
+                0,
+                0,
+                STRIDE,
+                &mut dst[written..],
+            );
+            return (read + STRIDE, written);
+        }
+        let (bytes, units) = write_group::<3>(&src[read..], &mut dst[written..]);
         read += bytes;
         written += units;
-        if before_ascii {
-            return (read, written);
-        }
     }
     (read, written)
 }

@@ -80,20 +80,20 @@ fn bytes_before<const BEFORE: usize>(src: &[u8], at: usize) -> (u8x16, u8x16, u8
 }
 
 /// Writes the code units that end with the bytes from `from` up to `to` of the sixteen from `at` on, if no character has more
-/// than N bytes, and returns their number. BEFORE is 0 for the first sixteen bytes of the text, and 3 for others. Up to SPARE
-/// units after them may change: eight, or none.
+/// than N bytes, and returns their number. BEFORE is 0 for the first sixteen bytes of the text, and 3 for others. `dst` has at
+/// least ROOM units: sixteen, or none. If sixteen, up to SPARE units after those written may change: eight, or none.
 #[inline(always)]
-pub(super) fn write_stride<const N: usize, const BEFORE: usize, const SPARE: usize>(
-    src: &[u8],
-    at: usize,
-    from: usize,
-    to: usize,
-    dst: &mut [u16],
-) -> usize
+pub(super) fn write_stride<
+    const N: usize,
+    const BEFORE: usize,
+    const SPARE: usize,
+    const ROOM: usize,
+>(src: &[u8], at: usize, from: usize, to: usize, dst: &mut [u16]) -> usize
     requires before { (BEFORE ≤ at) × (BEFORE < 3 → at ≡ 0) }
     requires within { at + 16 ≤ length src.now }
     requires part { (from ≤ to) × (to ≤ 16) }
-    requires dst_length { 16 ≤ length dst.old }
+    requires dst_length { (ROOM ≤ length dst.old) × (to - from ≤ length dst.old) }
+    requires spare { ROOM < 16 → SPARE ≡ 0 }
     requires short { N < 4 → BelowUpTo 0xF0 src.now (at + 16) }
     ensures { WritesCompressed (take (to - from) (drop (at + from) (ends_after 0 src.now)))
         (take (to - from) (drop (at + from) (units_after 0 0 0 src.now))) dst.old dst.new result
@@ -102,32 +102,11 @@ pub(super) fn write_stride<const N: usize, const BEFORE: usize, const SPARE: usi
     let (three, two, one) = bytes_before::<BEFORE>(src, at);
     let (first, last) = units_of_stride::<N>(src, at, three, two, one);
     let kept = ends_of_stride(src, at, one, from, to);
-    write_kept::<SPARE>(first, last, kept, dst)
-}
-
-/// Writes the same code units and no others, even if `dst` has fewer than sixteen units.
-#[inline(always)]
-fn write_in_any_room<const N: usize, const BEFORE: usize>(
-    src: &[u8],
-    at: usize,
-    from: usize,
-    to: usize,
-    dst: &mut [u16],
-) -> usize
-    requires before { (BEFORE ≤ at) × (BEFORE < 3 → at ≡ 0) }
-    requires within { at + 16 ≤ length src.now }
-    requires part { (from ≤ to) × (to ≤ 16) }
-    requires dst_length { to - from ≤ length dst.old }
-    requires short { N < 4 → BelowUpTo 0xF0 src.now (at + 16) }
-    ensures { WritesCompressed (take (to - from) (drop (at + from) (ends_after 0 src.now)))
-        (take (to - from) (drop (at + from) (units_after 0 0 0 src.now))) dst.old dst.new result
-        result }
-{
-    if dst.len() >= STRIDE {
-        return write_stride::<N, BEFORE, 0>(src, at, from, to, dst);
+    if ROOM >= STRIDE || dst.len() >= STRIDE {
+        return write_kept::<SPARE>(first, last, kept, dst);
     }
     let mut units = [0; STRIDE];
-    let count = write_stride::<N, BEFORE, 0>(src, at, from, to, &mut units);
+    let count = write_kept::<SPARE>(first, last, kept, &mut units);
     dst[..count].copy_from_slice(&units[..count]);
     count
 }
@@ -141,17 +120,17 @@ pub(super) fn write_strides<const N: usize>(src: &[u8], dst: &mut [u16]) -> usiz
     requires short { N < 4 → BelowUpTo 0xF0 src.now (length src.now) }
     ensures { WritesPrefix dst.old dst.new result (flat_map encode_utf16 (chars src.now)) }
 {
-    let mut written = write_stride::<N, 0, 0>(src, 0, 0, STRIDE, dst);
+    let mut written = write_stride::<N, 0, 0, STRIDE>(src, 0, 0, STRIDE, dst);
     let mut at = STRIDE;
     while src.len() - at >= STRIDE {
-        written += write_stride::<N, 3, 0>(src, at, 0, STRIDE, &mut dst[written..]);
+        written += write_stride::<N, 3, 0, STRIDE>(src, at, 0, STRIDE, &mut dst[written..]);
         at += STRIDE;
     }
     if at == src.len() {
         return written;
     }
     let last = src.len() - STRIDE;
-    written + write_in_any_room::<N, 3>(src, last, at - last, STRIDE, &mut dst[written..])
+    written + write_stride::<N, 3, 0, 0>(src, last, at - last, STRIDE, &mut dst[written..])
 }
 
 /// Writes the UTF-16 of a text of at most 18 bytes, and returns its length in code units. The rest of `dst` is unchanged.
@@ -174,9 +153,9 @@ pub(super) fn write_tail(src: &[u8], dst: &mut [u16]) -> usize
     let lanes = with_zeros(&src[read..]);
     let (block, rest) = (lanes.to_array(), src.len() - read);
     if is_below(lanes, FOUR_BYTES) {
-        return written + write_in_any_room::<3, 0>(&block, 0, 0, rest, &mut dst[written..]);
+        return written + write_stride::<3, 0, 0, 0>(&block, 0, 0, rest, &mut dst[written..]);
     }
-    written + write_in_any_room::<4, 0>(&block, 0, 0, rest, &mut dst[written..])
+    written + write_stride::<4, 0, 0, 0>(&block, 0, 0, rest, &mut dst[written..])
 }
 
 /// Writes the UTF-16 of the characters in the first sixteen bytes, and returns how many bytes it read and how many code units it
@@ -189,5 +168,5 @@ pub(super) fn write_block(src: &[u8], dst: &mut [u16]) -> (usize, usize)
     ensures written { WritesUtf16 src.now dst.old dst.new result.0 result.1 (units_in src.now) }
 {
     let end = whole_end::<STRIDE, 4>(src);
-    (end, write_stride::<4, 0, 8>(src, 0, 0, end, dst))
+    (end, write_stride::<4, 0, 8, STRIDE>(src, 0, 0, end, dst))
 }

@@ -45,9 +45,9 @@ pub returns : goal.returns
 returns g c =
     let l = c.loop-at in
     let n = length c.args.src.now in
-    let same = c.write_in_any_room.auto.dst in
+    let same = c.write_stride.auto.dst in
     whole _ _ _ _ _ refl c.requires.text c.requires.dst_length.1
-    (group_more c.args.src.now c.args.dst.now l.dst c.write_in_any_room.new.dst l.at (16 - (l.at - (n - 16))) (n - 16 + (l.at - (n - 16))) n l.written _ 0
+    (group_more c.args.src.now c.args.dst.now l.dst c.write_stride.new.dst l.at (16 - (l.at - (n - 16))) (n - 16 + (l.at - (n - 16))) n l.written _ 0
     (omega arith) (omega arith) (omega arith) (omega arith)
     (omega (arith, same, length-take (length l.dst - l.written) (drop l.written l.dst), length-drop l.written l.dst)) l.invariant.2
-    (subst (WritesCompressed _ _ _ _ c.write_in_any_room.result) (omega arith) c.write_in_any_room.ensures))
+    (subst (WritesCompressed _ _ _ _ c.write_stride.result) (omega arith) c.write_stride.ensures))

@@ -1,5 +1,6 @@
-use Rattle.std.proofs.Common.{arith, drop, refl}
+use Rattle.std.proofs.Common.{arith, drop, refl, subst}
 use Rattle.std.proofs.lemmas.List.{take_rest}
+use Rattle.encoding_kernels.specs.EndingUnits.{WritesCompressed}
 use Rattle.encoding_kernels.proofs.GroupLemmas.{tail_written}
 use Rattle.encoding_kernels.proofs.Utf8ToUtf16LoopLemmas.{due_exact, putting_all, putting_more}
 use Rattle.encoding_kernels.proofs.utf8_to_utf16.strides.write_tail.Goals as goal
@@ -18,13 +19,13 @@ returns-then-read-src c = putting_all c.args.src.now c.args.dst.now c.loop-read.
 pub returns-then-is_below : goal.returns-then-is_below
 returns-then-is_below c =
     let l = c.loop-read in
-    let write = c.write_in_any_room in
+    let write = c.write_stride in
     tail_written c.args.src.now _ c.args.dst.now l.dst write.new.dst l.read l.written _ _ c.requires.text c.requires.dst_length.1 l.auto.dst l.invariant refl
-    write.auto.dst c.with_zeros-lanes.ensures write.ensures
+    write.auto.dst c.with_zeros-lanes.ensures (subst (WritesCompressed _ _ _ _ write.result) (omega arith) write.ensures)
 
 pub returns : goal.returns
 returns c =
     let l = c.loop-read in
-    let write = c.write_in_any_room-2 in
+    let write = c.write_stride-2 in
     tail_written c.args.src.now _ c.args.dst.now l.dst write.new.dst l.read l.written _ _ c.requires.text c.requires.dst_length.1 l.auto.dst l.invariant refl
-    write.auto.dst c.with_zeros-lanes.ensures write.ensures
+    write.auto.dst c.with_zeros-lanes.ensures (subst (WritesCompressed _ _ _ _ write.result) (omega arith) write.ensures)
