@@ -19,9 +19,7 @@ use encoding_kernels::simd::short::pass_short;
 pub(crate) use encoding_kernels::simd::short_copy::{
     BytesToBytes, BytesToUnits, UnitsToBytes, write_short,
 };
-use encoding_kernels::simd::width::{
-    ASCII_END, BLOCK, FOUR_BLOCKS, HALF_BLOCK, STRIDE, TWO_BLOCKS,
-};
+use encoding_kernels::simd::width::{ASCII_END, BLOCK, FOUR_BLOCKS, STRIDE, TWO_BLOCKS};
 
 /// Returns whether at most 128 bytes are ASCII.
 #[inline(always)]
@@ -46,7 +44,7 @@ pub(crate) fn first_block_prefix(bytes: &[u8]) -> usize
 /// vectors find its end, which may overlap.
 #[tactic(auto, using(std::proofs::lemmas::Bool::cases_lt, encoding_kernels::proofs::ScanLemmas::prefix_before))]
 #[inline(always)]
-fn ascii_valid_up_to_by_two<const N: usize>(bytes: &[u8]) -> usize
+pub(crate) fn ascii_valid_up_to_by_two<const N: usize>(bytes: &[u8]) -> usize
     requires { (0 < N) × (N ≤ 64) × (N ≤ length bytes.now) × (length bytes.now ≤ 2 * N) }
     ensures { IsLongestPrefix IsAscii bytes.now result }
 {
@@ -56,19 +54,6 @@ fn ascii_valid_up_to_by_two<const N: usize>(bytes: &[u8]) -> usize
     }
     let last = bytes.len() - N;
     last + run_len_below::<N>(bytes, last, ASCII_END)
-}
-
-/// Returns the length of the longest ASCII prefix, as `ascii_valid_up_to` does, of 16 to 64 bytes.
-#[inline(always)]
-pub(crate) fn short_ascii_valid_up_to(bytes: &[u8]) -> usize
-    requires { (16 ≤ length bytes.now) × (length bytes.now ≤ 64) }
-    ensures { IsLongestPrefix IsAscii bytes.now result }
-{
-    if bytes.len() >= HALF_BLOCK {
-        ascii_valid_up_to_by_two::<HALF_BLOCK>(bytes)
-    } else {
-        ascii_valid_up_to_by_two::<STRIDE>(bytes)
-    }
 }
 
 /// Returns the length of the longest ASCII prefix, as `ascii_valid_up_to` does, by the length of the bytes. The first `KNOWN` bytes

@@ -6,10 +6,10 @@ ghost use Rattle.encoding_kernels.specs.Scans.{BelowUpTo};
 
 use super::first::{First, character_length};
 use crate::ascii::prefixes::{
-    ascii_valid_up_to_by_length, first_block_prefix, is_short, short_ascii_valid_up_to,
+    ascii_valid_up_to_by_length, ascii_valid_up_to_by_two, first_block_prefix, is_short,
 };
 use encoding_kernels::lengths::{LEAST_FOR_VECTORS, SHORT, TWO_WIDEST_VECTORS};
-use encoding_kernels::simd::width::{ASCII_END, BLOCK, STRIDE};
+use encoding_kernels::simd::width::{ASCII_END, BLOCK, HALF_BLOCK, STRIDE};
 use encoding_kernels::utf8::validate::{well_formed_blocks, well_formed_short};
 
 /// Returns the length of a well-formed prefix: the ASCII prefix, and other text after it as far as vectors validate it.
@@ -19,12 +19,10 @@ fn well_formed_prefix(src: &[u8]) -> usize
     ensures { (result ≤ length src.now) × IsUtf8 (take result src.now) }
 {
     if STRIDE <= src.len() && src.len() <= SHORT {
-        let ascii = short_ascii_valid_up_to(src);
-        return if ascii == src.len() {
-            ascii
-        } else {
-            well_formed_short(src)
-        };
+        if is_short(src) {
+            return src.len();
+        }
+        return well_formed_short(src);
     }
     let ascii = ascii_valid_up_to_by_length::<0, false>(src);
     if ascii == src.len() || src.len() < STRIDE {
@@ -69,7 +67,11 @@ pub(crate) fn valid_up_to_by_vectors<const DAMAGED: bool>(src: &[u8]) -> usize
     ensures { IsLongestPrefix IsUtf8 src.now result }
 {
     if DAMAGED && src.len() >= STRIDE && src[0] < ASCII_END {
-        let ascii = short_ascii_valid_up_to(src);
+        let ascii = if src.len() >= HALF_BLOCK {
+            ascii_valid_up_to_by_two::<HALF_BLOCK>(src)
+        } else {
+            ascii_valid_up_to_by_two::<STRIDE>(src)
+        };
         if First::begins_none(&src[ascii..]) {
             return ascii;
         }

@@ -1,23 +1,35 @@
 use Rattle.std.proofs.Common.{}
+use Rattle.std.specs.Str.{IsAscii}
 use Rattle.std.proofs.lemmas.List.{take_rest}
 use Rattle.std.proofs.lemmas.Str.{IsUtf8-from_ascii}
+use Rattle.encoding_definitions.specs.Prefixes.{IsLongestPrefix}
 use Rattle.encoding_definitions.proofs.Utf8Lemmas.{IsLongestPrefix-utf8}
 use Rattle.encoding_text.proofs.WholePrefixesLemmas.{ascii_ends, rest_stops}
 use Rattle.encoding_text.proofs.utf_8.validate.valid_up_to_by_vectors.Goals as goal
+use Rattle.encoding_text.proofs.utf_8.validate.valid_up_to_by_vectors.Goals.{then-src-ge-HALF_BLOCK, else-src-ge-HALF_BLOCK}
 
 pub begins_none-requires-clause-not_empty : goal.begins_none-requires-clause-not_empty
 begins_none-requires-clause-not_empty g c =
-    let prefix = c.short_ascii_valid_up_to-ascii.ensures in
+    let prefix : IsLongestPrefix IsAscii c.args.src.now c.if-src-ge-HALF_BLOCK.ascii = elim c.if-src-ge-HALF_BLOCK.branch [
+      | then-src-ge-HALF_BLOCK w ↦ rw w.ascii-is w.ascii_valid_up_to_by_two-ascii.ensures
+      | else-src-ge-HALF_BLOCK w ↦ rw w.ascii-is w.ascii_valid_up_to_by_two-ascii-else-src-ge-HALF_BLOCK.ensures
+    ] in
     (rest_stops _ _ prefix (ascii_ends _ _ prefix c.requires.other)).0
 
 pub begins_none-requires-clause-lead : goal.begins_none-requires-clause-lead
 begins_none-requires-clause-lead g c =
-    let prefix = c.short_ascii_valid_up_to-ascii.ensures in
+    let prefix : IsLongestPrefix IsAscii c.args.src.now c.if-src-ge-HALF_BLOCK.ascii = elim c.if-src-ge-HALF_BLOCK.branch [
+      | then-src-ge-HALF_BLOCK w ↦ rw w.ascii-is w.ascii_valid_up_to_by_two-ascii.ensures
+      | else-src-ge-HALF_BLOCK w ↦ rw w.ascii-is w.ascii_valid_up_to_by_two-ascii-else-src-ge-HALF_BLOCK.ensures
+    ] in
     (rest_stops _ _ prefix (ascii_ends _ _ prefix c.requires.other)).1
 
 pub returns-then-begins_none : goal.returns-then-begins_none
 returns-then-begins_none g c =
-    let prefix = c.short_ascii_valid_up_to-ascii.ensures in
+    let prefix : IsLongestPrefix IsAscii c.args.src.now c.if-src-ge-HALF_BLOCK.ascii = elim c.if-src-ge-HALF_BLOCK.branch [
+      | then-src-ge-HALF_BLOCK w ↦ rw w.ascii-is w.ascii_valid_up_to_by_two-ascii.ensures
+      | else-src-ge-HALF_BLOCK w ↦ rw w.ascii-is w.ascii_valid_up_to_by_two-ascii-else-src-ge-HALF_BLOCK.ensures
+    ] in
     IsLongestPrefix-utf8 c.args.src.now _ prefix.within (IsUtf8-from_ascii _ prefix.kind)
     (rw take_rest at (c.begins_none.ensures c.if-begins_none.true))
 
