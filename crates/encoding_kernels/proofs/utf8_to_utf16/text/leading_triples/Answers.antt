@@ -1,11 +1,11 @@
 use Rattle.std.proofs.Common.{◌≡◌, ◌+◌, ◌-◌, ◌*◌, ◌/◌, ◌<◌, ◌≤◌, ◌∙◌, arith, bit_and, eqb, get_or, inl, inr, not, refl, sym, w8}
 use Rattle.std.proofs.lemmas.Bool.{cases_lt}
-use Rattle.encoding_kernels.specs.declared.utf8_to_utf16.groups.TheConstants.{LEAD_BITS, LEAD_VALUES, LATER_BITS, LATER_VALUES}
+use Rattle.encoding_kernels.specs.declared.utf8_to_utf16.text.TheConstants.{LEAD_BITS, LEAD_VALUES, LATER_BITS, LATER_VALUES}
 use Rattle.encoding_kernels.proofs.GroupLemmas.{three_from}
 use Rattle.encoding_kernels.proofs.VectorLemmas.{HasLanes-itself, HasLanes-zip2, HasLanes_load, same_below}
 use Rattle.encoding_kernels.proofs.MaskLemmas.{run_is_first, tests_of}
-use Rattle.encoding_kernels.proofs.utf8_to_utf16.groups.leading_triples.Goals as goal
-use Rattle.encoding_kernels.proofs.utf8_to_utf16.groups.leading_triples.Goals.{then-before-lt16, else-before-lt16}
+use Rattle.encoding_kernels.proofs.utf8_to_utf16.text.leading_triples.Goals as goal
+use Rattle.encoding_kernels.proofs.utf8_to_utf16.text.leading_triples.Goals.{then-before-lt16, else-before-lt16}
 
 pub returns : goal.returns
 returns c =

@@ -1,10 +1,10 @@
 use Rattle.std.proofs.Common.{◌≡◌, ℕ, ◌+◌, ◌-◌, ◌*◌, ◌<◌, ◌||◌, ◌∙◌, Bool, true, arith, bit_and, eqb, false, get_or, inl, inr, not, refl, sym, w8}
 use Rattle.std.proofs.lemmas.Bool.{true≢false, cases_lt}
-use Rattle.encoding_kernels.specs.declared.utf8_to_utf16.groups.TheConstants.{LEAD_BITS, LEAD_VALUES, LATER_BITS, LATER_VALUES}
+use Rattle.encoding_kernels.specs.declared.utf8_to_utf16.text.TheConstants.{LEAD_BITS, LEAD_VALUES, LATER_BITS, LATER_VALUES}
 use Rattle.encoding_kernels.proofs.GroupLemmas.{three_from}
 use Rattle.encoding_kernels.proofs.VectorLemmas.{HasLanes-itself, HasLanes-zip2, HasLanes_load, same_below}
 use Rattle.encoding_kernels.proofs.MaskLemmas.{tests_of, tests_or, none_passes}
-use Rattle.encoding_kernels.proofs.utf8_to_utf16.groups.begins_triples.Goals as goal
+use Rattle.encoding_kernels.proofs.utf8_to_utf16.text.begins_triples.Goals as goal
 
 or_false : (p q : Bool) → p || q ≡ false → (p ≡ false) × (q ≡ false)
 or_false true q e = absurd (true≢false e)

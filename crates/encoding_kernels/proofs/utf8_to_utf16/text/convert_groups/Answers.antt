@@ -4,7 +4,7 @@ use Rattle.std.proofs.lemmas.List.{take_rest}
 use Rattle.std.proofs.lemmas.Str.{IsCharBoundary-before_ascii}
 use Rattle.encoding_kernels.proofs.GroupLemmas.{group_first, group_whole}
 use Rattle.encoding_kernels.proofs.Utf8ToUtf16LoopLemmas.{due_block, due_exact, putting_more, putting_some}
-use Rattle.encoding_kernels.proofs.utf8_to_utf16.groups.convert_groups.Goals as goal
+use Rattle.encoding_kernels.proofs.utf8_to_utf16.text.convert_groups.Goals as goal
 
 pub loop-read-preserved-then-begins_triples : goal.loop-read-preserved-then-begins_triples
 loop-read-preserved-then-begins_triples c =

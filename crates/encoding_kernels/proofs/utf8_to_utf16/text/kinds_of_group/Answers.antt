@@ -3,7 +3,7 @@ use Rattle.std.proofs.lemmas.Bool.{cases_lt}
 use Rattle.encoding_kernels.proofs.GroupLemmas.{below_each, both_below}
 use Rattle.encoding_kernels.proofs.VectorLemmas.{HasLanes_load}
 use Rattle.encoding_kernels.proofs.MaskLemmas.{chosen_by, tests_of}
-use Rattle.encoding_kernels.proofs.utf8_to_utf16.groups.kinds_of_group.Goals as goal
+use Rattle.encoding_kernels.proofs.utf8_to_utf16.text.kinds_of_group.Goals as goal
 
 pub returns-clause-short : goal.returns-clause-short
 returns-clause-short c t k l =

@@ -1,6 +1,6 @@
 use Rattle.std.proofs.Common.{◌-◌, length}
 use Rattle.encoding_kernels.proofs.Utf8ToUtf16LoopLemmas.{Putting}
-use Rattle.encoding_kernels.proofs.utf8_to_utf16.groups.convert_groups.Given as goal
+use Rattle.encoding_kernels.proofs.utf8_to_utf16.text.convert_groups.Given as goal
 
 abbrev pub invariant-loop-read : goal.invariant-loop-read
 invariant-loop-read l = Putting l.src l.fn.dst l.dst l.read l.written

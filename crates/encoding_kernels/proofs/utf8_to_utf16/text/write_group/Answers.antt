@@ -4,8 +4,8 @@ use Rattle.encoding_kernels.specs.EndingUnits.{WritesUtf16}
 use Rattle.encoding_kernels.proofs.GroupLemmas.{group_first, group_more, group_text, group_whole}
 use Rattle.encoding_kernels.proofs.Utf8ToUtf16LoopLemmas.{due_block}
 use borrow.Rule.Slice.PartMut.{put_mid}
-use Rattle.encoding_kernels.proofs.utf8_to_utf16.groups.write_group.Goals.{then-this-lt4, else-this-lt4}
-use Rattle.encoding_kernels.proofs.utf8_to_utf16.groups.write_group.Goals as goal
+use Rattle.encoding_kernels.proofs.utf8_to_utf16.text.write_group.Goals.{then-this-lt4, else-this-lt4}
+use Rattle.encoding_kernels.proofs.utf8_to_utf16.text.write_group.Goals as goal
 
 pub loop-stride-init : goal.loop-stride-init
 loop-stride-init g c = group_first c.args.src.now c.args.dst.now c.write_stride-written.new.dst 16 16 _ _ refl c.write_stride-written.auto.dst

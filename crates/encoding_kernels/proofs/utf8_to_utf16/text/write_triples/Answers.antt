@@ -3,7 +3,7 @@ use Rattle.encoding_kernels.proofs.VectorLemmas.{HasLanes-splat, HasLanes-zip2, 
 use Rattle.encoding_kernels.proofs.CodeUnitLemmas.{triple_lane}
 use Rattle.encoding_kernels.proofs.GroupLemmas.{third_bytes}
 use Rattle.encoding_kernels.proofs.Utf8ToUtf16Lemmas.{puts_triples}
-use Rattle.encoding_kernels.proofs.utf8_to_utf16.groups.write_triples.Goals as goal
+use Rattle.encoding_kernels.proofs.utf8_to_utf16.text.write_triples.Goals as goal
 
 pub returns : goal.returns
 returns c =

@@ -1,7 +1,7 @@
 use Rattle.std.proofs.Common.{◌*◌, arith}
 use Rattle.std.proofs.lemmas.List.{take_rest}
 use Rattle.encoding_kernels.proofs.Utf8ToUtf16LoopLemmas.{due_block, putting_first, putting_more, putting_some}
-use Rattle.encoding_kernels.proofs.utf8_to_utf16.groups.write_with_pairs.Goals as goal
+use Rattle.encoding_kernels.proofs.utf8_to_utf16.text.write_with_pairs.Goals as goal
 
 pub returns-then-not-are_bytes_below-clause-written : goal.returns-then-not-are_bytes_below-clause-written
 returns-then-not-are_bytes_below-clause-written c =
