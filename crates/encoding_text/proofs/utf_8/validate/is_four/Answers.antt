@@ -1,7 +1,7 @@
 use Rattle.std.proofs.Common.{◌≡◌, ◌*◌, ◌%◌, arith, bit_and}
 use Rattle.std.proofs.lemmas.Nat.{and_le_l}
 use Rattle.std.proofs.lemmas.Grind.{common_steps}
-use Rattle.encoding_text.proofs.utf_8.first.is_four.Goals as goal
+use Rattle.encoding_text.proofs.utf_8.validate.is_four.Goals as goal
 
 pub returns : goal.returns
 returns c =

@@ -1,6 +1,6 @@
 use Rattle.std.proofs.Common.{◌-◌, ◌<◌, ◌≤◌, length, take}
 use Rattle.encoding_definitions.specs.Sequence.{IsSequence, IsIncomplete}
-use Rattle.encoding_text.proofs.utf_8.first.First.by_bytes.Given as goal
+use Rattle.encoding_text.proofs.utf_8.validate.First.by_bytes.Given as goal
 
 abbrev pub invariant-loop-known : goal.invariant-loop-known
 invariant-loop-known l = record {

@@ -2,7 +2,7 @@ use Rattle.std.proofs.Common.{inr, arith}
 use Rattle.std.proofs.lemmas.Bool.{both_ways}
 use Rattle.encoding_text.proofs.CallLemmas.{begins_before}
 use Rattle.encoding_text.proofs.FirstLemmas.{single, incomplete_none, one_incomplete, shows_malformed, unpaired}
-use Rattle.encoding_text.proofs.utf_8.first.First.of_two.Goals as goal
+use Rattle.encoding_text.proofs.utf_8.validate.First.of_two.Goals as goal
 
 pub returns-then-is_lead_with_continuation-clause-several : goal.returns-then-is_lead_with_continuation-clause-several
 returns-then-is_lead_with_continuation-clause-several c =

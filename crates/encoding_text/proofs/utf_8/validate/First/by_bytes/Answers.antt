@@ -4,7 +4,7 @@ use Rattle.std.proofs.lemmas.List.{length-take}
 use Rattle.encoding_definitions.proofs.SequenceLemmas.{length-IsIncomplete}
 use Rattle.encoding_text.proofs.CallLemmas.{begins_before}
 use Rattle.encoding_text.proofs.FirstLemmas.{single, incomplete_none, next_longer, next_rejected, next_whole, several_length, shows_malformed, whole_incomplete}
-use Rattle.encoding_text.proofs.utf_8.first.First.by_bytes.Goals as goal
+use Rattle.encoding_text.proofs.utf_8.validate.First.by_bytes.Goals as goal
 
 pub returns-then-not-begins_several : goal.returns-then-not-begins_several
 returns-then-not-begins_several c =
