@@ -7,13 +7,14 @@ ghost use Rattle.encoding_definitions.specs.Prefixes.{IsLongestPrefix, WritesPre
 ghost use Rattle.encoding_kernels.specs.EndingUnits.{WritesUtf16, units_in};
 ghost use Rattle.encoding_kernels.specs.Scans.{BelowUpTo, IsRunBelow};
 
-use super::{ascii_to_ascii, ascii_to_basic_latin, ascii_valid_up_to};
+use super::{ascii_to_ascii, ascii_to_basic_latin};
 use encoding_kernels::lengths::{BLOCK_OF_TEXT, STRIDE_OF_TEXT};
 use encoding_kernels::simd::copy::{
     copy, copy_run, copy_run_of_block, unpack, unpack_block, unpack_run,
 };
 use encoding_kernels::simd::scan::{
-    BytesBelow, are_bytes_below, are_four_blocks_below, run_len_below,
+    BytesBelow, are_bytes_below, are_four_blocks_below, prefix_after_stride, prefix_len_below,
+    run_len_below,
 };
 use encoding_kernels::simd::short::pass_short;
 pub(crate) use encoding_kernels::simd::short_copy::{
@@ -74,23 +75,15 @@ pub(crate) fn ascii_valid_up_to_by_length<const KNOWN: usize, const ALL: bool>(
     }
     if KNOWN < BLOCK {
         if bytes.len() < BLOCK {
-            return ascii_valid_up_to(bytes);
+            return prefix_len_below(bytes, ASCII_END);
         }
         let first = first_block_prefix(bytes);
         if first < BLOCK {
             return first;
         }
     }
-    let mut known = BLOCK;
     if bytes.len() > TWO_BLOCKS {
-        known = bytes.len() / BLOCK * BLOCK;
-        let prefix = ascii_valid_up_to(&bytes[..known]);
-        if prefix < known {
-            return prefix;
-        }
-    }
-    if known == bytes.len() {
-        return known;
+        return prefix_after_stride(bytes, ASCII_END);
     }
     let last = bytes.len() - BLOCK;
     last + run_len_below::<BLOCK>(bytes, last, ASCII_END)
