@@ -6,6 +6,5 @@ pub mod joined;
 pub(crate) mod lookup;
 pub mod scan;
 pub mod short;
-pub mod short_copy;
 pub(crate) mod sum;
 pub mod width;

@@ -2,6 +2,6 @@
 
 pub mod count;
 pub mod length;
-mod lookups;
+pub(crate) mod lookups;
 pub mod repaired;
 pub mod validate;

@@ -8,7 +8,8 @@ ghost use Rattle.encoding_kernels.specs.KeptBytes.{EncodesTo};
 ghost use Rattle.encoding_kernels.specs.Utf8Output.{Spills};
 
 use crate::simd::compress::{keep_pairs, store_two, write_both};
-use crate::simd::copy::{first_and_last_eight, join_bytes};
+use crate::simd::copy::join_bytes;
+use crate::simd::short::first_and_last_eight;
 use crate::simd::width::{HALF_STRIDE, STRIDE};
 use std::simd::prelude::*;
 

@@ -6,7 +6,7 @@ ghost use Rattle.std.specs.Simd.Lanes.{mask_l};
 ghost use Rattle.encoding_kernels.specs.KeptBytes.{kept_places, unit_places};
 ghost use Rattle.encoding_kernels.specs.Utf8Output.{Spills};
 
-use crate::simd::copy::LANES;
+use crate::simd::width::LANES;
 use std::simd::prelude::*;
 
 /// Builds the table pair by pair, last pair first. Each row lists the index of the pair's first byte, or those of both

@@ -1,17 +1,14 @@
 //! Copies by vectors: bytes as bytes or as UTF-16 code units, and ASCII code units as bytes. The rest of `dst` is
-//! unchanged. Vectors whose lanes are moved on.
+//! unchanged.
 
-ghost use Rattle.std.specs.Prelude.{◌-◌, ◌≡◌, ◌+◌, ◌*◌, ◌%◌, ◌<◌, ◌≤◌, ◌∷◌, ◌++◌, length, map, take, drop, replicate, slice_index};
+ghost use Rattle.std.specs.Prelude.{◌≡◌, ◌+◌, ◌*◌, ◌%◌, ◌<◌, ◌≤◌, ◌++◌, length, map, take, drop, slice_index};
 ghost use Rattle.encoding_definitions.specs.Prefixes.{WritesPrefix};
 ghost use Rattle.encoding_kernels.specs.Scans.{AllBelow, HasLanes};
 
-use crate::simd::width::{BLOCK, HALF_BLOCK, HALF_STRIDE, STRIDE};
+use crate::simd::width::{BLOCK, HALF_BLOCK, HALF_STRIDE, LANES, STRIDE};
 use crate::tuning::LONGEST_VECTOR_COPY;
 use std::simd::Simd;
 use std::simd::prelude::*;
-
-/// The indices of the lanes of a stride.
-pub(crate) const LANES: [u8; STRIDE] = [0, 1, 2, 3, 4, 5, 6, 7, 8, 9, 10, 11, 12, 13, 14, 15];
 
 /// The indices of the lanes of a block.
 const LANES_OF_BLOCK: [u8; BLOCK] = [
@@ -248,34 +245,6 @@ pub fn pack_first(stride: &[u16; STRIDE], dst: &mut [u8], at: usize, count: usiz
     write_first(dst, at, lower.cast::<u8>(), count);
 }
 
-/// Returns the first eight of eight to sixteen bytes, followed by the last eight, which may overlap.
-#[inline(always)]
-pub(crate) fn first_and_last_eight(src: &[u8]) -> u8x16
-    requires { (8 ≤ length src.now) × (length src.now ≤ 16) }
-    ensures { result ≡ take 8 src.now ++ drop (length src.now - 8) src.now }
-{
-    u8x8::from_slice(src).shuffle(
-        u8x8::from_slice(&src[src.len() - 8..]),
-        [0, 1, 2, 3, 4, 5, 6, 7, 8, 9, 10, 11, 12, 13, 14, 15],
-    )
-}
-
-/// Returns eight to sixteen bytes, followed by zeros: the first eight, and those of the last eight after
-/// these. Uses only loads, since a load of what two stores wrote would stall on store forwarding.
-#[inline(always)]
-pub(crate) fn with_zeros(src: &[u8]) -> u8x16
-    requires { (8 ≤ length src.now) × (length src.now ≤ 16) }
-    ensures { result ≡ src.now ++ drop (length src.now) (replicate 16 0) }
-{
-    let lanes = u8x16::from_array(LANES);
-    let count = u8x16::splat(src.len() as u8);
-    let both = first_and_last_eight(src);
-    let following = (lanes + (u8x16::splat(16) - count)) & u8x16::splat(15);
-    let places = lanes.simd_lt(u8x16::splat(8)).select(lanes, following);
-    let bytes = both.swizzle_dyn(places);
-    lanes.simd_lt(count).select(bytes, u8x16::splat(0))
-}
-
 /// Joins a lower and an upper byte for each lane, and returns the first eight and the last eight.
 #[inline(always)]
 pub(crate) fn join_bytes(lower: u8x16, upper: u8x16) -> (u16x8, u16x8)
@@ -292,34 +261,4 @@ pub(crate) fn join_bytes(lower: u8x16, upper: u8x16) -> (u16x8, u16x8)
         [8, 24, 9, 25, 10, 26, 11, 27, 12, 28, 13, 29, 14, 30, 15, 31],
     );
     (u16x8::from_le_bytes(first), u16x8::from_le_bytes(last))
-}
-
-/// Returns for each lane the bytes three, two and one lanes before it, and zeros before the first.
-#[inline(always)]
-pub(crate) fn lanes_before(block: u8x16) -> (u8x16, u8x16, u8x16)
-    ensures three { HasLanes 16 result.0 (λ k. slice_index (0 ∷ 0 ∷ 0 ∷ block) k) }
-    ensures two { HasLanes 16 result.1 (λ k. slice_index (0 ∷ 0 ∷ block) k) }
-    ensures one { HasLanes 16 result.2 (λ k. slice_index (0 ∷ block) k) }
-{
-    let zero = u8x16::splat(0);
-    (
-        zero.shuffle(
-            block,
-            [
-                13, 14, 15, 16, 17, 18, 19, 20, 21, 22, 23, 24, 25, 26, 27, 28,
-            ],
-        ),
-        zero.shuffle(
-            block,
-            [
-                14, 15, 16, 17, 18, 19, 20, 21, 22, 23, 24, 25, 26, 27, 28, 29,
-            ],
-        ),
-        zero.shuffle(
-            block,
-            [
-                15, 16, 17, 18, 19, 20, 21, 22, 23, 24, 25, 26, 27, 28, 29, 30,
-            ],
-        ),
-    )
 }

@@ -1,4 +1,4 @@
-//! The widths of vectors and of groups of them, and the bounds of ASCII.
+//! The widths of vectors and of groups of them, the indices of their lanes, and the bounds of ASCII.
 
 /// The number of bytes in a block.
 pub const BLOCK: usize = 64;
@@ -41,3 +41,6 @@ pub const ASCII_END: u8 = 0x80;
 
 /// The least UTF-16 code unit that isn't ASCII.
 pub const BASIC_LATIN_END: u16 = 0x80;
+
+/// The indices of the lanes of a stride.
+pub(crate) const LANES: [u8; STRIDE] = [0, 1, 2, 3, 4, 5, 6, 7, 8, 9, 10, 11, 12, 13, 14, 15];

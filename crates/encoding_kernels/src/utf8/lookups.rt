@@ -3,10 +3,10 @@
 //! the nibbles of two adjacent bytes, each leave some errors possible. An error has a bit, and is there if all three
 //! leave it.
 
-ghost use Rattle.std.specs.Prelude.{◌≡◌, ℕ, ◌+◌, ◌<◌, ◌≤◌, length, slice_index};
+ghost use Rattle.std.specs.Prelude.{◌≡◌, ℕ, ◌+◌, ◌<◌, ◌≤◌, ◌∷◌, length, slice_index};
+ghost use Rattle.encoding_kernels.specs.Scans.{HasLanes};
 ghost use Rattle.encoding_kernels.specs.Following.{IsValidAfter, IsValidAt};
 
-use crate::simd::copy::lanes_before;
 use crate::simd::lookup::twice;
 use std::simd::prelude::*;
 
@@ -161,6 +161,36 @@ pub(super) fn faults_32(src: &[u8], at: usize) -> u8x32
         u8x32::from_slice(&src[at - 2..]),
         u8x32::from_slice(&src[at - 1..]),
         u8x32::from_slice(&src[at..]),
+    )
+}
+
+/// Returns for each lane the bytes three, two and one lanes before it, and zeros before the first.
+#[inline(always)]
+pub(crate) fn lanes_before(block: u8x16) -> (u8x16, u8x16, u8x16)
+    ensures three { HasLanes 16 result.0 (λ k. slice_index (0 ∷ 0 ∷ 0 ∷ block) k) }
+    ensures two { HasLanes 16 result.1 (λ k. slice_index (0 ∷ 0 ∷ block) k) }
+    ensures one { HasLanes 16 result.2 (λ k. slice_index (0 ∷ block) k) }
+{
+    let zero = u8x16::splat(0);
+    (
+        zero.shuffle(
+            block,
+            [
+                13, 14, 15, 16, 17, 18, 19, 20, 21, 22, 23, 24, 25, 26, 27, 28,
+            ],
+        ),
+        zero.shuffle(
+            block,
+            [
+                14, 15, 16, 17, 18, 19, 20, 21, 22, 23, 24, 25, 26, 27, 28, 29,
+            ],
+        ),
+        zero.shuffle(
+            block,
+            [
+                15, 16, 17, 18, 19, 20, 21, 22, 23, 24, 25, 26, 27, 28, 29, 30,
+            ],
+        ),
     )
 }
 

@@ -6,8 +6,8 @@ ghost use Rattle.encoding_kernels.specs.Scans.{BelowBetween, BelowUpTo};
 ghost use Rattle.encoding_kernels.specs.Following.{ValidUpTo};
 ghost use Rattle.std.specs.Str.{IsUtf8};
 
-use crate::simd::copy::with_zeros;
 use crate::simd::scan::{BytesBelow, all, is_zero, skip, zeros};
+use crate::simd::short::with_zeros;
 use crate::simd::width::{ASCII_END, BLOCK, FOUR_BLOCKS, HALF_BLOCK, STRIDE, TWO_BLOCKS};
 use crate::tuning::{FIRST_PAIRS, MOST_PAIRS, MOST_SKIPPED};
 use crate::utf8::lookups::{faults, faults_32, first_faults, first_faults_32};

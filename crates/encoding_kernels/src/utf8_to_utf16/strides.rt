@@ -14,8 +14,9 @@ ghost use Rattle.encoding_kernels.specs.Scans.{BelowUpTo, HasLanes};
 ghost use Rattle.encoding_kernels.specs.EndingUnits.{NoUnitEnds, WritesCompressed, WritesUtf16, units_after, units_in, ends_after};
 
 use crate::scalar::{decode_utf8_scalar, sequence_length, write_utf16};
-use crate::simd::copy::{lanes_before, with_zeros};
+use crate::simd::short::with_zeros;
 use crate::simd::width::{HALF_STRIDE, STRIDE};
+use crate::utf8::lookups::lanes_before;
 use crate::utf8_to_utf16::code_units::{ends_of_stride, is_below, units_of_stride, write_kept};
 use std::simd::prelude::*;
 

@@ -17,7 +17,7 @@ use encoding_kernels::simd::scan::{
     run_len_below,
 };
 use encoding_kernels::simd::short::pass_short;
-pub(crate) use encoding_kernels::simd::short_copy::{
+pub(crate) use encoding_kernels::simd::short::{
     BytesToBytes, BytesToUnits, UnitsToBytes, write_short,
 };
 use encoding_kernels::simd::width::{ASCII_END, BLOCK, FOUR_BLOCKS, STRIDE, TWO_BLOCKS};

@@ -1,5 +1,5 @@
 use Rattle.std.proofs.Common.{◌≡◌, ◌-◌, ◌+◌, ◌++◌, take, drop, subst, arith}
-use Rattle.encoding_kernels.proofs.simd.short_copy.UnitsToBytesCopyLanesU8.write.Goals as goal
+use Rattle.encoding_kernels.proofs.simd.short.UnitsToBytesCopyLanesU8.write.Goals as goal
 
 pub returns : goal.returns
 returns g c =
