@@ -8,7 +8,7 @@ use Rattle.std.specs.List.{range_with_len}
 use lib.Lanes.{zip2, chunk}
 use Rattle.encoding_definitions.specs.Bidi.{IsRightToLeft}
 use Rattle.encoding_definitions.proofs.BidiTextLemmas.{right_to_left_from}
-use Rattle.encoding_kernels.specs.declared.bidi.byte_lookups.TheConstants.{FIRST_HIGH, FIRST_LOW, SECOND_HIGH, SECOND_LOW, THIRD_HIGH, THIRD_LOW}
+use Rattle.encoding_kernels.specs.declared.bidi.bytes.TheConstants.{FIRST_HIGH, FIRST_LOW, SECOND_HIGH, SECOND_LOW, THIRD_HIGH, THIRD_LOW}
 use Rattle.encoding_kernels.specs.RightToLeft.{RtlAt, BeginNoRtl, NoRtlIn}
 use Rattle.encoding_kernels.specs.Scans.{HasLanes}
 use Rattle.encoding_kernels.proofs.BidiLemmas.{by_first_three}

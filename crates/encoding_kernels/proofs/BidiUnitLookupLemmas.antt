@@ -6,7 +6,7 @@ use Rattle.std.specs.Int.{IsInRange}
 use Rattle.std.proofs.lemmas.Simd.{Each1-from_get_or}
 use Rattle.std.proofs.lemmas.Nat.{and_mask}
 use lib.Lanes.{zip2, chunk, Each1}
-use Rattle.encoding_kernels.specs.declared.bidi.unit_lookups.TheConstants.{FIRST, SECOND, THIRD, FOURTH}
+use Rattle.encoding_kernels.specs.declared.bidi.units.TheConstants.{FIRST, SECOND, THIRD, FOURTH}
 use Rattle.encoding_definitions.specs.Bidi.{IsRightToLeft, IsRightToLeftUnit}
 use Rattle.encoding_definitions.proofs.BidiUnitsLemmas.{UnitForm, unit_form}
 use Rattle.encoding_kernels.proofs.VectorLemmas.{same_below, HasLanes-zip2, HasLanes_load, HasLanes-splat, HasLanes_same, HasLanes-itself}

@@ -1,0 +1,14 @@
+use Rattle.std.proofs.Common.{◌-◌, ◌≤◌, ◌<◌, length}
+use Rattle.encoding_kernels.specs.RightToLeft.{NoRtlIn}
+use Rattle.encoding_kernels.proofs.bidi.bytes.skip_clear.Given as goal
+
+abbrev pub invariant-loop-at : goal.invariant-loop-at
+invariant-loop-at l = record {
+  within : (l.from ≤ l.at) × (l.at ≤ length l.bytes);
+  none : NoRtlIn l.bytes l.from l.at;
+  some : 0 < l.blocks;
+  few : l.blocks ≤ 8;
+}
+
+abbrev pub decreases-loop-at : goal.decreases-loop-at
+decreases-loop-at l = length l.bytes - l.at
