@@ -1,6 +1,7 @@
 -- Longest prefixes that may be the whole list: the ASCII prefix before the first other unit, and the bytes that the
 -- ISO-2022-JP decoder returns unchanged, by strides.
-use Rattle.std.proofs.Common.{ℕ, ◌+◌, ◌-◌, ◌<◌, ◌≤◌, inl, inr, List, ◌++◌, length, take, drop, slice_index, ap, eqb, sym, ◌∙◌, arith, subst, append_assoc, Option, Some, None, ◌≡◌, ◌≢◌, Bool, true, false, ◌||◌, leb, w8, bit_or, replicate, length-drop, length-take-le}
+use borrow.Rule.Slice.PartMut.{put_mid}
+use Rattle.std.proofs.Common.{ℕ, ◌+◌, ◌-◌, ◌<◌, ◌≤◌, inl, inr, List, ◌++◌, length, take, drop, slice_index, ap, eqb, sym, refl, ◌∙◌, arith, subst, append_assoc, Option, Some, None, ◌≡◌, ◌≢◌, Bool, true, false, ◌||◌, leb, w8, bit_or, replicate, length-drop, length-take-le, take-add}
 use Rattle.std.proofs.lemmas.Str.{IsUtf8-from_ascii}
 use Rattle.std.specs.Prelude.{IsTrue, ◌↔◌}
 use Rattle.std.specs.Str.{IsAscii, IsUtf8}
@@ -10,9 +11,9 @@ use Rattle.encoding_definitions.specs.Ascii.{IsFirstOther, prefix_length_by, IsI
 use Rattle.encoding_definitions.specs.Prefixes.{IsLongestPrefix, WritesPrefix}
 use Rattle.encoding_kernels.proofs.ScanLemmas.{after_prefix, ascii_prefix_at, below_prefix, Each-at, prefix_before, unit_is}
 use Rattle.encoding_kernels.proofs.PairsLemmas.{ascii_latin1}
-use Rattle.encoding_kernels.specs.Scans.{IsRunBelow}
+use Rattle.encoding_kernels.specs.Scans.{AllBelow, BelowUpTo, IsRunBelow}
 use Rattle.encoding_definitions.specs.Latin1.{IsUtf8Latin1}
-use Rattle.encoding_definitions.proofs.PrefixesLemmas.{WritesPrefix-length, WritesPrefix-same, WritesPrefix_again}
+use Rattle.encoding_definitions.proofs.PrefixesLemmas.{WritesPrefix-length, WritesPrefix-same, WritesPrefix_after, WritesPrefix_again}
 use Rattle.std.proofs.lemmas.Option.{slice_get_within}
 use Rattle.std.proofs.lemmas.Bool.Decides.{nat_tests}
 use Rattle.std.specs.Simd.Lanes.{chunk, zip2}
@@ -71,6 +72,54 @@ prefix_of_first_units xs n k within prefix l =
 -- the first n units are ASCII, if their ASCII prefix doesn't end before they do
 pub first_units_ascii : (xs : List ℕ) (n k : ℕ) → n ≤ length xs → IsLongestPrefix IsAscii (take n xs) k → n ≤ k → IsAscii (take n xs)
 first_units_ascii xs n k within prefix l = subst IsAscii (take_all k (take n xs) (omega (arith, length-take-le n xs within))) prefix.kind
+
+-- the ASCII prefix of a block that isn't all ASCII
+pub first_run : (xs : List ℕ) (run : ℕ) → 64 ≤ length xs → IsRunBelow 0x80 xs 0 64 run → (AllBelow 0x80 xs 0 64 → ⊥) → IsLongestPrefix IsAscii xs run
+first_run xs run long r stops = elim (cases_lt run 64) [
+  | inl l ↦ let e : 0 + run ≡ run = omega arith in
+      prefix_before (λ b. b < 0x80) (omega arith) xs run (omega arith) (λ k p. r.pass k (omega arith) (omega arith))
+      (λ _ low. r.stops l (subst (λ j. slice_index xs j < 0x80) (sym e) low))
+  | inr b ↦ absurd (stops (λ k from to. r.pass k from (omega (arith, r.within, b))))
+]
+
+-- the first n units, which are ASCII, and the others
+module _ (xs : List ℕ) (n : ℕ) (within : n ≤ length xs) where
+  abbrev more : List ℕ
+  more = take (length xs - n) (drop n xs)
+
+  many : length more ≡ length xs - n
+  many = length-take-le (length xs - n) (drop n xs) (omega (arith, within, length-drop n xs))
+
+  same : (j : ℕ) → j < length xs - n → slice_index more j ≡ slice_index xs (n + j)
+  same j l = unit_is 0 n (length xs - n) xs more refl j l
+
+  -- a block isn't all ASCII
+  pub block_stops : n + 64 ≤ length xs → (AllBelow 0x80 xs n 64 → ⊥) → AllBelow 0x80 (take (length xs - n) (drop n xs)) 0 64 → ⊥
+  block_stops long stops all = stops (λ k from to.
+      let e : n + (k - n) ≡ k = omega arith in
+      subst (λ b. b < 0x80) (same (k - n) (omega arith) ∙ ap (slice_index xs) e) (all (k - n) (omega arith) (omega arith)))
+
+  -- the prefix goes on among the others, and is copied
+  module _ (known : BelowUpTo 0x80 xs n) (k : ℕ) (prefix : IsLongestPrefix IsAscii (take (length xs - n) (drop n xs)) k) where
+    below : BelowUpTo 0x80 xs (n + k)
+    below i l = elim (cases_lt i n) [
+      | inl p ↦ known i p
+      | inr p ↦ let e : n + (i - n) ≡ i = omega arith in
+          subst (λ b. b < 0x80) (same (i - n) (omega (arith, prefix.within, many)) ∙ ap (slice_index xs) e)
+          (below_prefix more k prefix (i - n) (omega arith))
+    ]
+
+    pub prefix_after : IsLongestPrefix IsAscii xs (n + k)
+    prefix_after = prefix_before (λ b. b < 0x80) (omega arith) xs (n + k) (omega (arith, prefix.within, many, within)) below (λ l low.
+        let high = rw (same k (omega (arith, l, within))) at (ascii_stops more k prefix (omega (arith, many, l))) in omega (arith, high, low))
+
+    pub copied_after : (old mid sub : List ℕ) → WritesPrefix old mid n (take n xs)
+        → WritesPrefix (take (length mid - n) (drop n mid)) sub k (take k (take (length xs - n) (drop n xs)))
+        → WritesPrefix old (put_mid n (length mid - n) mid sub) (n + k) (take (n + k) xs)
+    copied_after old mid sub first next =
+        let both : take n xs ++ take k more ≡ take (n + k) xs =
+        ap (λ ys. take n xs ++ ys) (take-take k (length xs - n) (drop n xs) (omega (arith, prefix.within, many))) ∙ sym (take-add n k xs) in
+        WritesPrefix-same _ _ _ _ _ _ (WritesPrefix_after old mid n (take n xs) sub k (take k more) first next) refl both
 
 -- the last m units, of which the first `run` are ASCII, after the first n, which are ASCII and may overlap them
 module _ (xs : List ℕ) (n m run : ℕ) (within : n ≤ length xs) (overlap : length xs ≤ n + m) (room : m ≤ length xs) (ascii : IsAscii (take n xs))

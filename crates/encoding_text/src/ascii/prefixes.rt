@@ -5,7 +5,7 @@ ghost use Rattle.std.specs.Prelude.{◌≡◌, ◌+◌, ◌*◌, ◌<◌, ◌≤
 ghost use Rattle.std.specs.Str.{IsAscii, IsUtf8};
 ghost use Rattle.encoding_definitions.specs.Prefixes.{IsLongestPrefix, WritesPrefix};
 ghost use Rattle.encoding_kernels.specs.EndingUnits.{WritesUtf16, units_in};
-ghost use Rattle.encoding_kernels.specs.Scans.{BelowUpTo, IsRunBelow};
+ghost use Rattle.encoding_kernels.specs.Scans.{AllBelow, BelowUpTo, IsRunBelow};
 
 use super::{ascii_to_ascii, ascii_to_basic_latin};
 use encoding_kernels::lengths::{BLOCK_OF_TEXT, STRIDE_OF_TEXT};
@@ -162,17 +162,40 @@ pub(crate) fn precedes_ascii(bytes: &[u8]) -> bool {
     bytes.len() >= 4 + FOUR_BLOCKS && are_four_blocks_below(&bytes[4..4 + FOUR_BLOCKS], ASCII_END)
 }
 
-/// Copies the longest ASCII prefix, each byte as a UTF-16 code unit, and returns its length. The last stride may overlap the
-/// one before it, so a loop is left only fewer than sixteen bytes. Inline, for a call outside loops on more than 64 bytes.
+/// Copies blocks of ASCII from the start, each byte as a UTF-16 code unit, and returns how many bytes these are: all if all are
+/// ASCII, since the last block may overlap the one before it.
 #[inline(always)]
-pub(crate) fn unpack_ascii_prefix(src: &[u8], dst: &mut [u16]) -> usize
+fn unpack_blocks(src: &[u8], dst: &mut [u16]) -> usize
+    requires dst_length { length src.now ≤ length dst.old }
+    ensures within { result ≤ length src.now }
+    ensures ascii { BelowUpTo 0x80 src.now result }
+    ensures stops { result + 64 ≤ length src.now → AllBelow 0x80 src.now result 64 → ⊥ }
+    ensures copied { WritesPrefix dst.old dst.new result (take result src.now) }
+{
+    if src.len() < BLOCK {
+        return 0;
+    }
+    let last = src.len() - BLOCK;
+    let mut at = 0;
+    while at < last && are_bytes_below::<BLOCK>(src, at, ASCII_END) {
+        unpack::<BLOCK>(src, dst, at);
+        at += BLOCK;
+    }
+    if at >= last && are_bytes_below::<BLOCK>(src, last, ASCII_END) {
+        unpack::<BLOCK>(src, dst, last);
+        return src.len();
+    }
+    at
+}
+
+/// Copies the longest ASCII prefix, each byte as a UTF-16 code unit, and returns its length. The last stride may overlap the
+/// one before it, so a loop is left only fewer than sixteen bytes.
+#[inline(always)]
+fn unpack_strides(src: &[u8], dst: &mut [u16]) -> usize
     requires dst_length { length src.now ≤ length dst.old }
     ensures prefix { IsLongestPrefix IsAscii src.now result }
     ensures copied { WritesPrefix dst.old dst.new result (take result src.now) }
 {
-    if src.is_empty() || src[0] >= ASCII_END {
-        return 0;
-    }
     let whole = length_of_strides(src.len());
     if let Some((_, place)) = ascii_to_basic_latin(&src[..whole], dst) {
         return place;
@@ -184,6 +207,31 @@ pub(crate) fn unpack_ascii_prefix(src: &[u8], dst: &mut [u16]) -> usize
     let run = run_len_below::<STRIDE>(src, last, ASCII_END);
     unpack_run(src, dst, last, run);
     last + run
+}
+
+/// Copies the longest ASCII prefix, each byte as a UTF-16 code unit, and returns its length. After blocks of ASCII one mask has its
+/// end, and two vectors copy what precedes that. Inline, for a call outside loops on more than 64 bytes.
+#[inline(always)]
+pub(crate) fn unpack_ascii_prefix(src: &[u8], dst: &mut [u16]) -> usize
+    requires dst_length { length src.now ≤ length dst.old }
+    ensures prefix { IsLongestPrefix IsAscii src.now result }
+    ensures copied { WritesPrefix dst.old dst.new result (take result src.now) }
+{
+    if src.is_empty() || src[0] >= ASCII_END {
+        return 0;
+    }
+    let at = unpack_blocks(src, dst);
+    if at == src.len() {
+        return at;
+    }
+    let rest = &src[at..];
+    if rest.len() < BLOCK {
+        return at + unpack_strides(rest, &mut dst[at..]);
+    }
+    let run = first_block_prefix(rest);
+    let text = BytesToUnits { src: &rest[..run] };
+    write_short::<BLOCK, _, _>(&text, &mut dst[at..]);
+    at + run
 }
 
 /// Copies the longest ASCII prefix, each byte as a UTF-16 code unit, up to the shorter of the two lengths. Returns its

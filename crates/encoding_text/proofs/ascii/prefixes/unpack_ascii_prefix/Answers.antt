@@ -1,29 +1,44 @@
-use Rattle.std.proofs.Common.{arith}
-use Rattle.encoding_text.proofs.WholePrefixesLemmas.{fitting_ascii, fitting_prefix, fitting_copied, prefix_on, copied_on}
+use Rattle.std.proofs.Common.{ℕ, List, ◌≤◌, ◌+◌, ◌-◌, arith, drop, length, length-drop, length-take-le, refl, take}
+use Rattle.std.specs.Str.{IsAscii}
+use Rattle.encoding_definitions.specs.Prefixes.{IsLongestPrefix}
+use Rattle.encoding_definitions.proofs.PrefixesLemmas.{WritesPrefix-same}
+use Rattle.encoding_kernels.specs.Scans.{AllBelow, IsRunBelow}
+use Rattle.encoding_text.proofs.WholePrefixesLemmas.{block_stops, copied_after, first_run, prefix_after}
 use Rattle.encoding_text.proofs.ascii.prefixes.unpack_ascii_prefix.Goals as goal
 
-pub returns-in-Some-clause-prefix : goal.returns-in-Some-clause-prefix
-returns-in-Some-clause-prefix c =
-    fitting_prefix c.args.src.now c.args.dst.now c.length_of_strides-whole.result c.length_of_strides-whole.ensures.within.0 c.requires.dst_length
-    c.in-Some.field-0-0 c.in-Some.place c.in-Some.ensures.found
+pub returns-then-rest-lt-BLOCK-clause-prefix : goal.returns-then-rest-lt-BLOCK-clause-prefix
+returns-then-rest-lt-BLOCK-clause-prefix c =
+    let blocks = c.unpack_blocks-at.ensures in
+    prefix_after c.args.src.now c.unpack_blocks-at.result blocks.within blocks.ascii c.unpack_strides.result c.unpack_strides.ensures.prefix
+
+pub returns-then-rest-lt-BLOCK-clause-copied : goal.returns-then-rest-lt-BLOCK-clause-copied
+returns-then-rest-lt-BLOCK-clause-copied c =
+    let blocks = c.unpack_blocks-at.ensures in
+    copied_after c.args.src.now c.unpack_blocks-at.result blocks.within blocks.ascii c.unpack_strides.result c.unpack_strides.ensures.prefix
+    c.args.dst.now c.unpack_blocks-at.new.dst c.unpack_strides.new.dst blocks.copied c.unpack_strides.ensures.copied
+
+-- the prefix of what follows the blocks
+last_run : (src : List ℕ) (at run : ℕ) → at ≤ length src → 64 ≤ length (take (length src - at) (drop at src))
+    → (at + 64 ≤ length src → AllBelow 0x80 src at 64 → ⊥) → IsRunBelow 0x80 (take (length src - at) (drop at src)) 0 64 run
+    → IsLongestPrefix IsAscii (take (length src - at) (drop at src)) run
+last_run src at run within long stops r =
+    let fits : at + 64 ≤ length src = omega (arith, long, length-take-le (length src - at) (drop at src) (omega (arith, within, length-drop at src))) in
+    first_run (take (length src - at) (drop at src)) run long r (block_stops src at within fits (stops fits))
 
 pub returns-clause-prefix : goal.returns-clause-prefix
 returns-clause-prefix c =
-    let src = c.args.src.now in
-    let whole = c.length_of_strides-whole.result in
-    let call = c.length_of_strides-whole.ensures in
-    let ascii = fitting_ascii src c.args.dst.now whole call.within.0 c.requires.dst_length c.in_default.ensures.found in
-    prefix_on src whole 16 c.run_len_below-run.result call.within.0 (omega (arith, call.within.1)) (omega (arith, call.whole, c.if-whole-src.false)) ascii
-    c.run_len_below-run.ensures
+    let blocks = c.unpack_blocks-at.ensures in
+    let run = last_run c.args.src.now c.unpack_blocks-at.result c.first_block_prefix-run.result blocks.within (omega (arith, c.if-rest-lt-BLOCK.false))
+    blocks.stops c.first_block_prefix-run.ensures in
+    prefix_after c.args.src.now c.unpack_blocks-at.result blocks.within blocks.ascii c.first_block_prefix-run.result run
 
 pub returns-clause-copied : goal.returns-clause-copied
 returns-clause-copied c =
+    let blocks = c.unpack_blocks-at.ensures in
     let src = c.args.src.now in
-    let old = c.args.dst.now in
-    let whole = c.length_of_strides-whole.result in
-    let call = c.length_of_strides-whole.ensures in
-    let ascii = fitting_ascii src old whole call.within.0 c.requires.dst_length c.in_default.ensures.found in
-    let start = fitting_copied src old whole call.within.0 c.requires.dst_length c.ascii_to_basic_latin.new.dst c.in_default.ensures.copied in
-    copied_on src whole 16 c.run_len_below-run.result call.within.0 (omega (arith, call.within.1)) (omega (arith, call.whole, c.if-whole-src.false)) ascii
-    c.run_len_below-run.ensures
-    old c.ascii_to_basic_latin.new.dst _ c.requires.dst_length start c.unpack_run.ensures
+    let run = last_run src c.unpack_blocks-at.result c.first_block_prefix-run.result blocks.within (omega (arith, c.if-rest-lt-BLOCK.false))
+    blocks.stops c.first_block_prefix-run.ensures in
+    let all = c.write_short.ensures.pass.1 (λ k from to. run.kind k) in
+    let long = length-take-le c.first_block_prefix-run.result (take (length src - c.unpack_blocks-at.result) (drop c.unpack_blocks-at.result src)) run.within in
+    copied_after src c.unpack_blocks-at.result blocks.within blocks.ascii c.first_block_prefix-run.result run c.args.dst.now c.unpack_blocks-at.new.dst
+    c.write_short.new.dst blocks.copied (WritesPrefix-same _ _ _ _ _ _ (c.write_short.ensures.written all) long refl)
