@@ -209,8 +209,26 @@ fn unpack_strides(src: &[u8], dst: &mut [u16]) -> usize
     last + run
 }
 
-/// Copies the longest ASCII prefix, each byte as a UTF-16 code unit, and returns its length. After blocks of ASCII one mask has its
-/// end, and two vectors copy what precedes that. Inline, for a call outside loops on more than 64 bytes.
+/// Copies the longest ASCII prefix, each byte as a UTF-16 code unit, and returns its length. It ends in the first 64 bytes, if there
+/// are that many: one mask has its end, and two vectors copy what precedes that. Out of line, so that callers inline `unpack_blocks`.
+#[inline(never)]
+fn unpack_rest(src: &[u8], dst: &mut [u16]) -> usize
+    requires dst_length { length src.now ≤ length dst.old }
+    requires other { 64 ≤ length src.now → AllBelow 0x80 src.now 0 64 → ⊥ }
+    ensures prefix { IsLongestPrefix IsAscii src.now result }
+    ensures copied { WritesPrefix dst.old dst.new result (take result src.now) }
+{
+    if src.len() < BLOCK {
+        return unpack_strides(src, dst);
+    }
+    let run = first_block_prefix(src);
+    let text = BytesToUnits { src: &src[..run] };
+    write_short::<BLOCK, _, _>(&text, dst);
+    run
+}
+
+/// Copies the longest ASCII prefix, each byte as a UTF-16 code unit, and returns its length. Inline, for a call outside loops on
+/// more than 64 bytes.
 #[inline(always)]
 pub(crate) fn unpack_ascii_prefix(src: &[u8], dst: &mut [u16]) -> usize
     requires dst_length { length src.now ≤ length dst.old }
@@ -224,14 +242,7 @@ pub(crate) fn unpack_ascii_prefix(src: &[u8], dst: &mut [u16]) -> usize
     if at == src.len() {
         return at;
     }
-    let rest = &src[at..];
-    if rest.len() < BLOCK {
-        return at + unpack_strides(rest, &mut dst[at..]);
-    }
-    let run = first_block_prefix(rest);
-    let text = BytesToUnits { src: &rest[..run] };
-    write_short::<BLOCK, _, _>(&text, &mut dst[at..]);
-    at + run
+    at + unpack_rest(&src[at..], &mut dst[at..])
 }
 
 /// Copies the longest ASCII prefix, each byte as a UTF-16 code unit, up to the shorter of the two lengths. Returns its
