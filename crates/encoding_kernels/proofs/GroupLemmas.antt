@@ -1,23 +1,24 @@
 -- UTF-16 of many characters at once: of eight of three bytes, and of those that end in 64 bytes.
-use Rattle.std.proofs.Common.{◌≡◌, ◌&&◌, ℕ, not, eqb, leb, bit_and, zero, suc, ◌+◌, ◌-◌, ◌<◌, ◌≤◌, inl, inr, Bool, true, false, if◌then◌else◌, ltb, List, [], ◌∷◌, ◌++◌, map, length, replicate, take, drop, get_or, refl, sym, ap, ◌∙◌, arith, subst, take-add, append_assoc, drop-drop}
+use Rattle.std.proofs.Common.{◌≡◌, ◌&&◌, ℕ, not, eqb, leb, bit_and, zero, suc, ◌+◌, ◌-◌, ◌/◌, ◌<◌, ◌≤◌, inl, inr, Bool, true, false, if◌then◌else◌, ltb, List, [], ◌∷◌, ◌++◌, map, length, replicate, take, drop, get_or, refl, sym, ap, ◌∙◌, arith, subst, take-add, append_assoc, drop-drop, w16}
 use Rattle.std.specs.List.{range_with_len}
 use Rattle.std.specs.Str.{IsUtf8, IsCharBoundary, chars}
-use Rattle.std.specs.Simd.Lanes.{chunk, pick_l}
+use Rattle.std.specs.Simd.Lanes.{chunk, pick_l, put_chunk, mask_l, sel_l, top, zip2}
+use Rattle.std.specs.Int.RustNames.{count_ones}
 use Rattle.std.proofs.lemmas.Bool.{cases_lt, cond-true, cond-false, lt-ltb, le-ltb, ltb-true, and_parts, leb-true, not-false}
 use borrow.Rule.Slice.PartMut.{put_mid}
 use Rattle.std.proofs.Math.Seq.{take-append-add}
 use Rattle.std.proofs.lemmas.List.{append-nil, drop_all, drop_at, drop-append-le, drop-take, take-take, take_at, take_rest, length-take-le, length-append, length-drop, length-take, get_or-take, get_or-drop, get_or-map, get_or_append_left, get_or-append_right, length-map}
 use Rattle.std.proofs.lemmas.Bool.Decides.{nat_tests}
 use Rattle.encoding_kernels.specs.Scans.{BelowBetween, HasLanes}
-use Rattle.encoding_kernels.specs.EndingUnits.{BeginsThree, NoUnitEnds, StoresUnits, WritesCompressed, WritesUtf16, ends_after, ends_unit, keep, unit_at, units_after}
-use Rattle.encoding_kernels.proofs.VectorLemmas.{HasLanes_load, HasLanes_same, same_below}
+use Rattle.encoding_kernels.specs.EndingUnits.{BeginsThree, NoUnitEnds, StoresUnits, WritesCompressed, WritesUtf16, ends_after, compressed_places, ends_unit, keep, unit_at, units_after}
+use Rattle.encoding_kernels.proofs.VectorLemmas.{HasLanes_load, HasLanes_same, compared, same_below}
 use Rattle.std.specs.Char.Escape.{encode_utf16}
 use Rattle.std.specs.List.{flat_map}
 use Rattle.std.proofs.lemmas.Str.{IsCharBoundary-at_seam, IsUtf8-append, IsUtf8-take, IsUtf8-drop}
 use Rattle.encoding_definitions.specs.Prefixes.{WritesPrefix}
 use Rattle.encoding_kernels.proofs.Utf8ToUtf16LoopLemmas.{Putting, putting_fits, putting_rest, puts_whole, zeros_text}
 use Rattle.encoding_kernels.proofs.CodeUnitLemmas.{ends_at, length-ends, length-units}
-use Rattle.encoding_kernels.proofs.CompressLemmas.{keep_pad, keep_take, length-keep-le}
+use Rattle.encoding_kernels.proofs.CompressLemmas.{keep_pad, keep_take, length-keep-le, writes_compressed, writes_compressed_exact}
 use Rattle.encoding_kernels.proofs.MaskPartLemmas.{part_size}
 use Rattle.encoding_kernels.proofs.Utf8ToUtf16Lemmas.{units_from, units_of_characters}
 
@@ -161,9 +162,45 @@ part_stored src at from to first last old new count reach room before within p q
       following = w.following;
     }
 
+-- the units of a stride that are kept, each half by its vector: a unit after them may change, or none
+module _ (src : List ℕ) (at from to : ℕ) {low high first last : List ℕ} (old : List ℕ) {kept : ℕ} (within : at + 16 ≤ length src)
+    (part : (from ≤ to) × (to ≤ 16))
+    (units : (low ≡ take 8 (drop at (units_after 0 0 0 src))) × (high ≡ take 8 (drop (at + 8) (units_after 0 0 0 src)))) (room : 16 ≤ length old)
+    (is : kept ≡ mask_l (part_marks src at from to)) (a : first ≡ map (λ k. get_or low k 0) (compressed_places (bit_and kept 255)))
+    (b : last ≡ map (λ k. get_or high k 0) (compressed_places (kept / 256))) where
+  half_long : (half : List ℕ) (n : ℕ) → half ≡ take 8 (drop n (units_after 0 0 0 src)) → n + 8 ≤ length src → length half ≡ 8
+  half_long half n p l = ap length p
+      ∙ length-take-le 8 (drop n (units_after 0 0 0 src)) (omega (arith, l, length-drop n (units_after 0 0 0 src), length-units 0 0 0 src))
+
+  eight : length low ≡ 8
+  eight = half_long low at units.0 (omega arith)
+
+  long : length (low ++ high) ≡ 16
+  long = omega (arith, length-append low high, eight, half_long high (at + 8) units.1 (omega arith))
+
+  pub stride_spare : WritesCompressed (take (to - from) (drop (at + from) (ends_after 0 src))) (take (to - from) (drop (at + from) (units_after 0 0 0 src)))
+      old (put_chunk (count_ones (bit_and kept 255)) (put_chunk 0 old first) last) (count_ones (bit_and kept 255) + count_ones (kept / 256))
+      (count_ones (bit_and kept 255) + count_ones (kept / 256) + 8 - count_ones (kept / 256))
+  stride_spare = part_stored src at from to low high old _ _ _ within part.0 part.1 units.0 units.1
+      (writes_compressed (part_marks src at from to) (low ++ high) old low high first last kept (sym (take_at low high 8 eight))
+      (sym (drop_at low high 8 eight))
+      (part_long src at from to within part.0 part.1) long room is a b)
+
+  pub stride_exact : WritesCompressed (take (to - from) (drop (at + from) (ends_after 0 src))) (take (to - from) (drop (at + from) (units_after 0 0 0 src)))
+      old (put_chunk (count_ones (bit_and kept 255)) (put_chunk 0 old first)
+      (sel_l (map (top 15) (zip2 (compared w16 ltb) (range_with_len 0 8) (replicate 8 (count_ones (kept / 256))))) last
+      (take 8 (drop (count_ones (bit_and kept 255)) old))))
+      (count_ones (bit_and kept 255) + count_ones (kept / 256)) (count_ones (bit_and kept 255) + count_ones (kept / 256))
+  stride_exact = part_stored src at from to low high old _ _ _ within part.0 part.1 units.0 units.1
+      (writes_compressed_exact (part_marks src at from to) (low ++ high) old low high first last kept (sym (take_at low high 8 eight))
+      (sym (drop_at low high 8 eight)) (part_long src at from to within part.0 part.1) long room is a b)
+
 pub stored_few : (marks : List Bool) (us : List ℕ) {old new : List ℕ} {count reach : ℕ} (n : ℕ)
     → WritesCompressed (take n marks) (take n us) old new count reach → count ≤ n
 stored_few marks us n w = omega (arith, w.counted, length-keep-le (take n marks) (take n us), length-take n marks)
+
+pub stored_within : {marks : List Bool} {us old new : List ℕ} {count reach : ℕ} → WritesCompressed marks us old new count reach → count ≤ length new
+stored_within {marks} {us} {old} {new} {count} {reach} w = omega (arith, w.counted, ap length w.placed, length-take count new)
 
 -- what is stored in another list
 pub stored_apart : (marks : List Bool) (us old new other : List ℕ) (count reach : ℕ) → count ≤ length new

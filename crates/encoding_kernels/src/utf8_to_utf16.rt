@@ -1,5 +1,4 @@
-//! The UTF-16 of well-formed UTF-8: `text` converts by `strides`, and these by `code_units`.
+//! The UTF-16 of well-formed UTF-8: `text` converts by `strides`.
 
-mod code_units;
 mod strides;
 pub mod text;

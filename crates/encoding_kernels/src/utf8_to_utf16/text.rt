@@ -15,9 +15,8 @@ use crate::scalar::sequence_length;
 use crate::simd::scan::{BytesBelow, are_bytes_below, run_before};
 use crate::simd::short::pass_short;
 use crate::simd::width::{ASCII_END, BLOCK, FOUR, HALF_BLOCK, STRIDE, TWO_BLOCKS};
-use crate::utf8_to_utf16::code_units::is_below;
 use crate::utf8_to_utf16::strides::{
-    FOUR_BYTES, STRIDE_AND_BEFORE, whole_end, write_block, write_character, write_stride,
+    FOUR_BYTES, STRIDE_AND_BEFORE, is_below, whole_end, write_block, write_character, write_stride,
     write_strides, write_tail,
 };
 use std::simd::prelude::*;

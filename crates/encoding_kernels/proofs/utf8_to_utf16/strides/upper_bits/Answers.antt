@@ -2,7 +2,7 @@ use Rattle.std.proofs.Common.{ap, ◌+◌, ◌-◌, ◌*◌, ◌/◌, ◌^◌, �
 use Rattle.encoding_kernels.proofs.VectorLemmas.{HasLanes-splat, HasLanes-zip2, HasLanes_same}
 use Rattle.encoding_kernels.proofs.Utf8LookupLemmas.{difference}
 use Rattle.encoding_kernels.proofs.CodeUnitLemmas.{upper_bits_lane}
-use Rattle.encoding_kernels.proofs.utf8_to_utf16.code_units.upper_bits.Goals as goal
+use Rattle.encoding_kernels.proofs.utf8_to_utf16.strides.upper_bits.Goals as goal
 
 pub returns : goal.returns
 returns c f g two one =

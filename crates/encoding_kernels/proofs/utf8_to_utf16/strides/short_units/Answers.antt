@@ -2,7 +2,7 @@ use Rattle.std.proofs.Common.{get_or, ◌+◌, ◌*◌, arith, ltb, w8, ◌∙�
 use Rattle.encoding_kernels.proofs.VectorLemmas.{HasLanes-itself, HasLanes-splat, HasLanes_same}
 use Rattle.encoding_kernels.proofs.MaskLemmas.{chosen_by, tests_of}
 use Rattle.encoding_kernels.proofs.CodeUnitLemmas.{bytes_below, parts, short_lower_lane, short_upper_lane}
-use Rattle.encoding_kernels.proofs.utf8_to_utf16.code_units.short_units.Goals as goal
+use Rattle.encoding_kernels.proofs.utf8_to_utf16.strides.short_units.Goals as goal
 
 pub returns : goal.returns
 returns c x y a two one small =

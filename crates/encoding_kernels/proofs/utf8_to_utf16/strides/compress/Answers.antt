@@ -2,7 +2,7 @@ use Rattle.std.proofs.Common.{w8, w16, sym, subst, ap, ◌∙◌, refl}
 use Rattle.std.proofs.lemmas.Simd.{SwzOk, below_from_Fits, swz_l}
 use Rattle.std.specs.Simd.Lanes.{number_l, digits_l}
 use Rattle.encoding_kernels.proofs.CompressLemmas.{places_ok, compressed, row_is}
-use Rattle.encoding_kernels.proofs.utf8_to_utf16.code_units.compress.Goals as goal
+use Rattle.encoding_kernels.proofs.utf8_to_utf16.strides.compress.Goals as goal
 
 pub swizzle : goal.swizzle
 swizzle c = subst (SwzOk w8 16 16 0) (sym (row_is c.args.mask _ _ c.requires refl refl)) (places_ok c.args.mask c.requires)

@@ -1,6 +1,6 @@
 use Rattle.std.proofs.Common.{◌+◌, ◌∷◌, arith, get_or}
 use Rattle.encoding_kernels.proofs.CodeUnitLemmas.{shifted_below, stride_halves}
-use Rattle.encoding_kernels.proofs.utf8_to_utf16.code_units.units_of_stride.Goals as goal
+use Rattle.encoding_kernels.proofs.utf8_to_utf16.strides.units_of_stride.Goals as goal
 
 pub returns-then-this-lt4 : goal.returns-then-this-lt4
 returns-then-this-lt4 g c =

@@ -1,7 +1,7 @@
 use Rattle.std.proofs.Common.{◌+◌, ◌*◌, ◌^◌, ◌%◌, bit_and}
 use Rattle.encoding_kernels.proofs.VectorLemmas.{HasLanes-itself, HasLanes-splat, HasLanes-zip2, HasLanes_same}
 use Rattle.encoding_kernels.proofs.CodeUnitLemmas.{lower_bits_lane}
-use Rattle.encoding_kernels.proofs.utf8_to_utf16.code_units.lower_bits.Goals as goal
+use Rattle.encoding_kernels.proofs.utf8_to_utf16.strides.lower_bits.Goals as goal
 
 pub returns : goal.returns
 returns c f one =

@@ -2,7 +2,7 @@ use Rattle.std.proofs.Common.{get_or, ◌+◌, ◌^◌, ◌%◌, bit_and, bit_or
 use Rattle.encoding_kernels.proofs.VectorLemmas.{HasLanes-itself, HasLanes-splat, HasLanes-zip2, HasLanes_same}
 use Rattle.encoding_kernels.proofs.MaskLemmas.{chosen, chosen_by, tests_of}
 use Rattle.encoding_kernels.proofs.CodeUnitLemmas.{bytes_below, upper_lane}
-use Rattle.encoding_kernels.proofs.utf8_to_utf16.code_units.upper_bytes.Goals as goal
+use Rattle.encoding_kernels.proofs.utf8_to_utf16.strides.upper_bytes.Goals as goal
 
 pub returns : goal.returns
 returns c x y a three two one =

@@ -2,7 +2,7 @@ use Rattle.std.proofs.Common.{arith, eqb-true, w8, leb}
 use Rattle.std.proofs.lemmas.Bool.{leb-false}
 use Rattle.encoding_kernels.proofs.VectorLemmas.{HasLanes-itself, HasLanes-splat}
 use Rattle.encoding_kernels.proofs.MaskLemmas.{tests_of, none_is_first}
-use Rattle.encoding_kernels.proofs.utf8_to_utf16.code_units.is_below.Goals as goal
+use Rattle.encoding_kernels.proofs.utf8_to_utf16.strides.is_below.Goals as goal
 
 pub returns : goal.returns
 returns c t k l =

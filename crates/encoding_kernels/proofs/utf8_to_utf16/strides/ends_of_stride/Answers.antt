@@ -5,7 +5,7 @@ use Rattle.encoding_kernels.specs.EndingUnits.{ends_after}
 use Rattle.encoding_kernels.proofs.CodeUnitLemmas.{stride_mask}
 use Rattle.encoding_kernels.proofs.MaskPartLemmas.{mask_between, part_size, sixteen_small}
 use Rattle.encoding_kernels.proofs.GroupLemmas.{stride_marks}
-use Rattle.encoding_kernels.proofs.utf8_to_utf16.code_units.ends_of_stride.Goals as goal
+use Rattle.encoding_kernels.proofs.utf8_to_utf16.strides.ends_of_stride.Goals as goal
 
 pub returns : goal.returns
 returns c =
@@ -18,4 +18,4 @@ returns c =
     let e : bit_and _ (1 * 2 ^ to % 2 ^ 64 - 1) / 2 ^ from * 2 ^ from ≡ mask_l kept =
     (λ i. bit_and (is i) (one_shl to 64 (omega arith) i - 1) / 2 ^ from * 2 ^ from) ∙ mask_between marks from to long c.requires.part.0 c.requires.part.1 in
     let small = sixteen_small kept (part_size marks from to long c.requires.part.0 c.requires.part.1) (mask_l kept) refl in
-    omega (arith, e, small)
+    record { small = omega (arith, e, small); mask = omega (arith, e, small) }

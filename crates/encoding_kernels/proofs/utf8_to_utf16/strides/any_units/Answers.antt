@@ -1,7 +1,7 @@
 use Rattle.std.proofs.Common.{◌+◌, ◌*◌, arith, ◌∙◌}
 use Rattle.encoding_kernels.proofs.VectorLemmas.{HasLanes_same}
 use Rattle.encoding_kernels.proofs.CodeUnitLemmas.{parts}
-use Rattle.encoding_kernels.proofs.utf8_to_utf16.code_units.any_units.Goals as goal
+use Rattle.encoding_kernels.proofs.utf8_to_utf16.strides.any_units.Goals as goal
 
 pub returns : goal.returns
 returns c x y a three two one =
