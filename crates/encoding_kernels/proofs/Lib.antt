@@ -21,6 +21,7 @@ pub mod SignedLemmas
 pub mod SumLemmas
 pub mod SurrogatePairsLemmas
 pub mod UniformLemmas
+pub mod UnitBytesLemmas
 pub mod UnpairedLemmas
 pub mod Utf16ToUtf8Lemmas
 pub mod Utf8LookupLemmas

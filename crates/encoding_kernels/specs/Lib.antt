@@ -8,4 +8,5 @@ pub mod RepairedLengths
 pub mod RightToLeft
 pub mod Scans
 pub mod SurrogatePairs
+pub mod UnitBytes
 pub mod Utf8Output

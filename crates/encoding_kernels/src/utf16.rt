@@ -1,5 +1,6 @@
 //! UTF-16 by itself.
 
+pub mod bytes;
 pub mod count;
 pub mod length;
 pub mod unpaired;

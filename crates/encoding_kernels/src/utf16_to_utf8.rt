@@ -8,4 +8,4 @@ mod pairs;
 pub mod tail;
 pub mod text;
 mod three_byte;
-mod two_byte;
+pub(crate) mod two_byte;

@@ -243,9 +243,42 @@ fn convert_neutral<U: CodeUnit>(
     convert_units(order, src, dst)
 }
 
-/// Converts as `convert_blocks` does, by blocks whose length suits the source.
+/// Converts as `convert_blocks` does. A short source that isn't ASCII would pay for the test of `convert_long`.
 #[inline(always)]
 fn convert_units<U: CodeUnit>(order: ByteOrder, src: &[u8], dst: &mut [U]) -> (usize, usize, bool)
+    ensures characters { Advances order U.encode [] src.now dst.old dst.new result.0 result.1 [] }
+    ensures full { IsTrue result.2 → BeginsTooLong order U.encode (drop result.0 src.now)
+        (length dst.old - result.1) }
+{
+    if src.len() <= 2 * MIDDLE_BLOCK {
+        return convert_by_length(order, src, dst);
+    }
+    convert_long(order, src, dst)
+}
+
+/// Converts as `convert_blocks` does. ASCII at the start goes to UTF-8 without a copy.
+#[inline(never)]
+fn convert_long<U: CodeUnit>(order: ByteOrder, src: &[u8], dst: &mut [U]) -> (usize, usize, bool)
+    ensures characters { Advances order U.encode [] src.now dst.old dst.new result.0 result.1 [] }
+    ensures full { IsTrue result.2 → BeginsTooLong order U.encode (drop result.0 src.now)
+        (length dst.old - result.1) }
+{
+    let ascii = U::write_ascii(order, src, dst);
+    let start = 2 * ascii;
+    if start == src.len() {
+        return (start, ascii, false);
+    }
+    let (read, written, full) = convert_by_length(order, &src[start..], &mut dst[ascii..]);
+    (start + read, ascii + written, full)
+}
+
+/// Converts as `convert_blocks` does, by blocks whose length suits the source.
+#[inline(always)]
+fn convert_by_length<U: CodeUnit>(
+    order: ByteOrder,
+    src: &[u8],
+    dst: &mut [U],
+) -> (usize, usize, bool)
     ensures characters { Advances order U.encode [] src.now dst.old dst.new result.0 result.1 [] }
     ensures full { IsTrue result.2 → BeginsTooLong order U.encode (drop result.0 src.now)
         (length dst.old - result.1) }
@@ -299,6 +332,9 @@ fn convert_blocks<U: CodeUnit, const N: usize>(
         if ended {
             return (read, written, false);
         }
+        let ascii = U::write_ascii(order, &src[read..], &mut dst[written..]);
+        read += 2 * ascii;
+        written += ascii;
     }
     (read, written, false)
 }

@@ -1,10 +1,17 @@
 -- The bytes of one more code unit.
-use Rattle.std.proofs.Common.{◌≡◌, ℕ, ◌+◌, ◌*◌, ◌<◌, List, [], ◌∷◌, ◌++◌, length, take, set, slice_index, refl, sym, ap, ◌∙◌, arith, append_assoc}
-use Rattle.std.proofs.lemmas.List.{take_more}
+use Rattle.std.proofs.Common.{◌≡◌, ℕ, zero, suc, ◌+◌, ◌*◌, ◌<◌, ◌≤◌, Bool, true, false, ◌/◌, ◌%◌, inl, inr, List, [], ◌∷◌, ◌++◌, length, take, drop, get_or, set, slice_index, refl, sym, ap, ◌∙◌, arith, append_assoc}
+use Rattle.std.specs.Str.{IsAscii}
+use Rattle.std.proofs.lemmas.Bool.{cases_lt}
+use Rattle.std.proofs.lemmas.List.{get_or-take, get_or-drop, get_or_past, length-drop, length-take, length-take-le, take_more}
+use Rattle.std.proofs.lemmas.Nat.{le_bytes_2, be_bytes_2}
 use Rattle.encoding_definitions.specs.Prefixes.{WritesPrefix}
 use Rattle.encoding_definitions.proofs.PrefixesLemmas.{WritesPrefix_push, WritesPrefix_push_two, WritesPrefix-same, flat_map_push}
 use Rattle.encoding_text.specs.declared.utf_16.ByteOrder.{ByteOrder}
 use Rattle.encoding_text.specs.declared.utf_16.ByteOrder.TheVariants.{LittleEndian, BigEndian}
+use Rattle.encoding_kernels.specs.Scans.{BelowUpTo}
+use Rattle.encoding_kernels.proofs.UnitBytesLemmas.{unit_at_is}
+use Rattle.encoding_text.proofs.WholePrefixesLemmas.{written_within}
+use Rattle.encoding_kernels.specs.UnitBytes.{unit_of, units_of}
 use Rattle.encoding_text.specs.Utf16Bytes.{unit_bytes, utf16_bytes}
 
 -- the first n code units are written, and they are those of the first 2 n bytes
@@ -42,3 +49,76 @@ encodes_one_more order src old new bytes n e l m writes =
     WritesPrefix-same _ _ _ _ _ _ pushed (omega arith)
     (ap (λ xs. utf16_bytes order (take n src) ++ xs) pair ∙ sym (flat_map_push (unit_bytes order) (take n src) (slice_index src n))
     ∙ ap (utf16_bytes order) (sym (take_more src n 0 l)))
+
+-- ---- code units of bytes: a kernel takes whether the more significant byte comes first
+abbrev pub is_big : ByteOrder → Bool
+is_big LittleEndian = false
+is_big BigEndian = true
+
+two_bytes : (order : ByteOrder) (a b : ℕ) → a < 256 → b < 256 → unit_bytes order (unit_of (is_big order) a b) ≡ a ∷ b ∷ []
+two_bytes order a b h k = at order bounds
+  where
+    bounds : (i : ℕ) → slice_index (a ∷ b ∷ []) i < 256
+    bounds zero = h
+    bounds (suc zero) = k
+    bounds (suc (suc i)) = omega arith
+
+    at : (order : ByteOrder) → ((i : ℕ) → slice_index (a ∷ b ∷ []) i < 256) → unit_bytes order (unit_of (is_big order) a b) ≡ a ∷ b ∷ []
+    at LittleEndian f = le_bytes_2 (a ∷ b ∷ []) (a + 0x100 * b) refl f (omega arith)
+    at BigEndian f = be_bytes_2 (a ∷ b ∷ []) (0x100 * a + b) refl f (omega arith)
+
+pub spelled_units : (order : ByteOrder) (bs : List ℕ) (n : ℕ) → 2 * n ≤ length bs → ((k : ℕ) → slice_index bs k < 256)
+    → utf16_bytes order (take n (units_of (is_big order) bs)) ≡ take (2 * n) bs
+spelled_units order bs zero l fit = refl
+spelled_units order [] (suc n) l fit = absurd (omega (arith, l))
+spelled_units order (a ∷ []) (suc n) l fit = absurd (omega (arith, l))
+spelled_units order (a ∷ b ∷ bs) (suc n) l fit =
+    let twice : suc (suc (2 * n)) ≡ 2 * suc n = omega arith in
+    let rest = spelled_units order bs n (omega (arith, l)) (λ k. fit (suc (suc k))) in
+    (λ i. two_bytes order a b (fit zero) (fit (suc zero)) i ++ rest i) ∙ ap (λ k. take k (a ∷ b ∷ bs)) twice
+
+-- the same if the order is known
+spelled_by : (order : ByteOrder) (big : Bool) → is_big order ≡ big → (bs : List ℕ) (n : ℕ) → 2 * n ≤ length bs → ((k : ℕ) → slice_index bs k < 256)
+    → utf16_bytes order (take n (units_of big bs)) ≡ take (2 * n) bs
+spelled_by order big e bs n l fit = ap (λ b. utf16_bytes order (take n (units_of b bs))) (sym e) ∙ spelled_units order bs n l fit
+
+module _ (order : ByteOrder) (big : Bool) (is : is_big order ≡ big) (src : List ℕ) (fit : (k : ℕ) → slice_index src k < 256) where
+  -- the first r code units are ASCII, and copied
+  pub copied_ascii : (old sub : List ℕ) (n r : ℕ) → 2 * r ≤ length src → BelowUpTo 0x80 (units_of big src) r
+      → WritesPrefix (take n old) sub r (take r (units_of big src))
+      → (units : List ℕ) × (utf16_bytes order units ≡ take (2 * r) src) × IsAscii units × WritesPrefix old (sub ++ drop n old) r units
+  copied_ascii old sub n r l below w =
+      let us = units_of big src in (
+        take r us,
+        spelled_by order big is src r l fit,
+        (λ i. elim (cases_lt i r) [
+          | inl p ↦ omega (arith, get_or-take r us i 0 p, below i p)
+          | inr p ↦ omega (arith, get_or_past (take r us) i 0 (omega (arith, length-take r us)))
+        ]),
+        written_within old sub n _ _ w,
+      )
+
+-- the next code unit isn't ASCII
+pub next_beyond : (order : ByteOrder) (big : Bool) → is_big order ≡ big → (src : List ℕ) (r unit : ℕ) (rest : List ℕ)
+    → drop (2 * r) src ≡ unit_bytes order unit ++ rest → (2 * r + 2 ≤ length src → 0x80 ≤ slice_index (units_of big src) r) → 0x80 ≤ unit
+next_beyond order big is src r unit rest e stops = at order is e
+  where
+    here : (bs : List ℕ) → drop (2 * r) src ≡ bs → (k : ℕ) → get_or src (2 * r + k) 0 ≡ get_or bs k 0
+    here bs f k = sym (get_or-drop (2 * r) src k 0) ∙ ap (λ xs. get_or xs k 0) f
+
+    first : 2 * r ≡ 2 * r + 0
+    first = omega arith
+
+    at : (order : ByteOrder) → is_big order ≡ big → drop (2 * r) src ≡ unit_bytes order unit ++ rest → 0x80 ≤ unit
+    at LittleEndian b f =
+        let size : 2 * r + 2 ≤ length src = omega (arith, ap length f, length-drop (2 * r) src) in
+        let low : get_or src (2 * r) 0 ≡ unit % 256 = ap (λ k. get_or src k 0) first ∙ here _ f 0 in
+        let high : get_or src (2 * r + 1) 0 ≡ unit / 256 % 256 = here _ f 1 in
+        let is = unit_at_is big src r size ∙ ap (λ x. unit_of x (get_or src (2 * r) 0) (get_or src (2 * r + 1) 0)) (sym b) in
+        omega (arith, stops size, is, low, high)
+    at BigEndian b f =
+        let size : 2 * r + 2 ≤ length src = omega (arith, ap length f, length-drop (2 * r) src) in
+        let high : get_or src (2 * r) 0 ≡ unit / 256 % 256 = ap (λ k. get_or src k 0) first ∙ here _ f 0 in
+        let low : get_or src (2 * r + 1) 0 ≡ unit % 256 = here _ f 1 in
+        let is = unit_at_is big src r size ∙ ap (λ x. unit_of x (get_or src (2 * r) 0) (get_or src (2 * r + 1) 0)) (sym b) in
+        omega (arith, stops size, is, low, high)

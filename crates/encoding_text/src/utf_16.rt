@@ -1,9 +1,12 @@
 //! UTF-16BE and UTF-16LE: Unicode Standard, section 3.10, and Encoding Standard, sections 14.2 to 14.4. Each code unit is
 //! two bytes. A call leaves the rest of `dst` unchanged.
 
-ghost use Rattle.std.specs.Prelude.{◌≡◌, ℕ, ◌+◌, ◌*◌, ◌/◌, ◌∷◌, [], List, length, min, take};
+ghost use Rattle.std.specs.Prelude.{◌≡◌, ℕ, ◌+◌, ◌*◌, ◌/◌, ◌∷◌, ◌++◌, ◌<◌, ◌≤◌, [], List, length, min, take, drop};
+ghost use Rattle.std.specs.Str.{IsAscii};
 ghost use Rattle.encoding_definitions.specs.Prefixes.{WritesPrefix};
 ghost use Rattle.encoding_text.specs.Utf16Bytes.{unit_bytes, utf16_bytes};
+
+use encoding_kernels::utf16::bytes::copy_ascii_units;
 
 /// The order of the two bytes of a code unit.
 #[derive(Clone, Copy, Debug, PartialEq, Eq, Drop)]
@@ -50,6 +53,23 @@ pub fn decode_utf16_bytes(order: ByteOrder, src: &[u8], dst: &mut [u16]) -> (usi
         dst[i] = decode_unit(order, [src[2 * i], src[2 * i + 1]]);
     }
     (2 * count, count)
+}
+
+/// Copies the longest ASCII prefix of UTF-16LE or UTF-16BE, each code unit as a byte, as far as `dst` holds it. Returns
+/// how many code units it copied.
+pub fn copy_utf16_bytes_to_ascii(order: ByteOrder, src: &[u8], dst: &mut [u8]) -> usize
+    ensures read { 2 * result ≤ length src.now }
+    ensures copied { (units : List ℕ) × (utf16_bytes order units ≡ take (2 * result) src.now)
+        × IsAscii units × WritesPrefix dst.old dst.new result units }
+    ensures stops { (unit : ℕ) (rest : List ℕ) → result < length dst.old
+        → drop (2 * result) src.now ≡ unit_bytes order unit ++ rest → 0x80 ≤ unit }
+{
+    let count = (src.len() / 2).min(dst.len());
+    let fitting = &mut dst[..count];
+    match order {
+        ByteOrder::LittleEndian => copy_ascii_units(false, src, fitting),
+        ByteOrder::BigEndian => copy_ascii_units(true, src, fitting),
+    }
 }
 
 /// Converts code units to UTF-16LE or UTF-16BE, as many as fit into `dst`. Returns how many code units were read and

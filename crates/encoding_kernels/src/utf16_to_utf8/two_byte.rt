@@ -12,7 +12,7 @@ use std::simd::prelude::*;
 /// Returns whether each of the sixteen code units is ASCII.
 #[tactic(auto, using(crate::proofs::MaskLemmas::all_ascii))]
 #[inline(always)]
-pub(super) fn are_ascii(units: u16x16) -> bool
+pub(crate) fn are_ascii(units: u16x16) -> bool
     ensures { IsTrue result → (k : ℕ) → k < 16 → slice_index units k < 0x80 }
 {
     is_zero_by_words((units & u16x16::splat(0xFF80)).to_le_bytes())

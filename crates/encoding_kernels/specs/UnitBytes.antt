@@ -1,0 +1,13 @@
+-- Code units of UTF-16LE and UTF-16BE: each is two bytes, and the byte order says whether the more significant one is first.
+use Rattle.std.specs.Prelude.{ℕ, ◌+◌, ◌*◌, Bool, true, false, List, [], ◌∷◌}
+
+-- the code unit of two bytes
+abbrev pub unit_of : Bool → ℕ → ℕ → ℕ
+unit_of false a b = a + 0x100 * b
+unit_of true a b = 0x100 * a + b
+
+-- the code units of bytes, without the last one of an odd number
+abbrev pub units_of : Bool → List ℕ → List ℕ
+units_of big [] = []
+units_of big (a ∷ []) = []
+units_of big (a ∷ b ∷ bs) = unit_of big a b ∷ units_of big bs

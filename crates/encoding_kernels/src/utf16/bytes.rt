@@ -1,0 +1,92 @@
+//! UTF-16LE and UTF-16BE, whose code units are two bytes each, by vectors of sixteen code units. `big` says that the more
+//! significant byte comes first.
+
+ghost use Rattle.std.specs.Prelude.{◌≡◌, ◌+◌, ◌*◌, ◌<◌, ◌≤◌, ◌++◌, IsTrue, length, take, drop, slice_index};
+ghost use Rattle.encoding_definitions.specs.Prefixes.{WritesPrefix};
+ghost use Rattle.encoding_kernels.specs.Scans.{AllBelow, BelowUpTo};
+ghost use Rattle.encoding_kernels.specs.UnitBytes.{units_of};
+
+use crate::simd::width::{BASIC_LATIN_END, HALF_BLOCK, STRIDE};
+use crate::utf16_to_utf8::two_byte::are_ascii;
+use std::simd::prelude::*;
+
+/// Returns the sixteen code units from index `at` on.
+#[inline(always)]
+fn sixteen_units(big: bool, src: &[u8], at: usize) -> u16x16
+    requires { 2 * at + 32 ≤ length src.now }
+    ensures { result ≡ take 16 (drop at (units_of big src.now)) }
+{
+    let units = u16x16::from_le_bytes(u8x32::from_slice(&src[2 * at..]));
+    if !big {
+        return units;
+    }
+    (units << u16x16::splat(8)) + (units >> u16x16::splat(8))
+}
+
+/// Returns the code unit at index `at`.
+#[inline(always)]
+fn unit_at(big: bool, src: &[u8], at: usize) -> u16
+    requires { 2 * at + 2 ≤ length src.now }
+    ensures { result ≡ slice_index (units_of big src.now) at }
+{
+    let first = u16::from(src[2 * at]);
+    let second = u16::from(src[2 * at + 1]);
+    if big {
+        return 0x100 * first + second;
+    }
+    first + 0x100 * second
+}
+
+/// Returns whether the sixteen code units from index `at` on are ASCII.
+#[inline(always)]
+fn are_sixteen_ascii(big: bool, src: &[u8], at: usize) -> bool
+    requires { 2 * at + 32 ≤ length src.now }
+    ensures { IsTrue result → AllBelow 0x80 (units_of big src.now) at 16 }
+{
+    are_ascii(sixteen_units(big, src, at))
+}
+
+/// Copies the sixteen code units from index `at` on to the same index, each as a byte.
+#[inline(always)]
+fn pack_sixteen(big: bool, src: &[u8], dst: &mut [u8], at: usize)
+    requires within { (2 * at + 32 ≤ length src.now) × (at + 16 ≤ length dst.old) }
+    requires ascii { AllBelow 0x80 (units_of big src.now) at 16 }
+    ensures { dst.new ≡ take at dst.old
+        ++ (take 16 (drop at (units_of big src.now)) ++ drop (at + 16) dst.old) }
+{
+    let lower = sixteen_units(big, src, at) & u16x16::splat(0xFF);
+    lower.cast::<u8>().copy_to_slice(&mut dst[at..]);
+}
+
+/// Copies the longest ASCII prefix of as many code units as `dst` holds, each as a byte, and returns its length.
+#[inline(always)]
+pub fn copy_ascii_units(big: bool, src: &[u8], dst: &mut [u8]) -> usize
+    requires { 2 * length dst.old ≤ length src.now }
+    ensures within { result ≤ length dst.old }
+    ensures below { BelowUpTo 0x80 (units_of big src.now) result }
+    ensures stops { result < length dst.old → 0x80 ≤ slice_index (units_of big src.now) result }
+    ensures copied { WritesPrefix dst.old dst.new result (take result (units_of big src.now)) }
+{
+    let mut at = 0;
+    while dst.len() - at >= HALF_BLOCK
+        && are_sixteen_ascii(big, src, at)
+        && are_sixteen_ascii(big, src, at + STRIDE)
+    {
+        pack_sixteen(big, src, dst, at);
+        pack_sixteen(big, src, dst, at + STRIDE);
+        at += HALF_BLOCK;
+    }
+    while dst.len() - at >= STRIDE && are_sixteen_ascii(big, src, at) {
+        pack_sixteen(big, src, dst, at);
+        at += STRIDE;
+    }
+    while at < dst.len() {
+        let unit = unit_at(big, src, at);
+        if unit >= BASIC_LATIN_END {
+            return at;
+        }
+        dst[at] = unit as u8;
+        at += 1;
+    }
+    at
+}
