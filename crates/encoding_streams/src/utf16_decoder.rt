@@ -295,6 +295,21 @@ fn convert_by_length<U: CodeUnit>(
     convert_blocks::<U, LONGEST_BLOCK>(order, src, dst)
 }
 
+/// Writes ASCII as `write_ascii` does, after a block of `N` code units: nothing after a short one, whose call would pay for it.
+#[inline(always)]
+fn write_ascii_after<U: CodeUnit, const N: usize>(
+    order: ByteOrder,
+    src: &[u8],
+    dst: &mut [U],
+) -> usize
+    ensures { Advances order U.encode [] src.now dst.old dst.new (2 * result) result [] }
+{
+    if N <= MIDDLE_BLOCK {
+        return 0;
+    }
+    U::write_ascii(order, src, dst)
+}
+
 /// Converts whole characters from the start of `src`, `N` code units at a time, up to the first that doesn't fit, or
 /// before an unpaired surrogate or the end. Returns how many bytes it read, how many code units it wrote, and whether
 /// the next character doesn't fit.
@@ -332,7 +347,7 @@ fn convert_blocks<U: CodeUnit, const N: usize>(
         if ended {
             return (read, written, false);
         }
-        let ascii = U::write_ascii(order, &src[read..], &mut dst[written..]);
+        let ascii = write_ascii_after::<U, N>(order, &src[read..], &mut dst[written..]);
         read += 2 * ascii;
         written += ascii;
     }

@@ -9,8 +9,9 @@ ghost use Rattle.encoding_definitions.specs.Prefixes.{IsLongestPrefix, WritesPre
 use encoding_kernels::simd::copy::{
     copy_first, copy_part, pack_first, pack_part, unpack_first, unpack_part,
 };
+use encoding_kernels::simd::joined::are_256_below;
 use encoding_kernels::simd::scan::{
-    are_bytes_below, are_four_blocks_below, are_units_below, run_len_below, units_run_len_below,
+    are_bytes_below, are_units_below, run_len_below, units_run_len_below,
 };
 use encoding_kernels::simd::width::{
     ASCII_END, BASIC_LATIN_END, BLOCK, FOUR, FOUR_BLOCKS, SIXTEEN, STRIDE, UNIT_BLOCK,
@@ -46,7 +47,7 @@ pub fn validate_ascii(bytes: &[u8]) -> Option<(u8, usize)>
     let (sixteens, _) = strides.as_chunks::<SIXTEEN>();
     let mut at = 0;
     for sixteen in sixteens {
-        if !are_four_blocks_below(sixteen.as_flattened(), ASCII_END) {
+        if !are_256_below(sixteen.as_flattened(), 0, ASCII_END) {
             break;
         }
         at += FOUR_BLOCKS;
@@ -88,7 +89,7 @@ pub fn ascii_valid_up_to(bytes: &[u8]) -> usize
     let (sixteens, _) = strides.as_chunks::<SIXTEEN>();
     let mut at = 0;
     for sixteen in sixteens {
-        if !are_four_blocks_below(sixteen.as_flattened(), ASCII_END) {
+        if !are_256_below(sixteen.as_flattened(), 0, ASCII_END) {
             break;
         }
         at += FOUR_BLOCKS;

@@ -107,7 +107,7 @@ fn others_of_128(bytes: &[u8], at: usize, bound: u8) -> u8x32
 
 /// Returns whether each of the 256 bytes from `at` on is below the bound.
 #[inline(always)]
-pub(crate) fn are_256_below(bytes: &[u8], at: usize, bound: u8) -> bool
+pub fn are_256_below(bytes: &[u8], at: usize, bound: u8) -> bool
     requires { at + 256 ≤ length bytes.now }
     ensures { IsTrue result ↔ AllBelow bound bytes.now at 256 }
 {

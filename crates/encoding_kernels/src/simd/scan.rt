@@ -231,15 +231,6 @@ pub fn are_units_below<const N: usize>(units: &[u16], at: usize, bound: u16) -> 
     all::<N, N, _>(&UnitsBelow { units, bound }, at)
 }
 
-/// Returns whether each of the bytes of four blocks is below the bound, by one test.
-#[inline(always)]
-pub fn are_four_blocks_below(bytes: &[u8], bound: u8) -> bool
-    requires { length bytes.now ≡ 256 }
-    ensures { IsTrue result ↔ AllBelow bound bytes.now 0 256 }
-{
-    are_256_below(bytes, 0, bound)
-}
-
 /// Returns how many of the N bytes from `at` on precede the first that isn't below the bound.
 #[inline(always)]
 pub fn run_len_below<const N: usize>(bytes: &[u8], at: usize, bound: u8) -> usize

@@ -12,8 +12,9 @@ use encoding_kernels::lengths::{BLOCK_OF_TEXT, STRIDE_OF_TEXT};
 use encoding_kernels::simd::copy::{
     copy, copy_run, copy_run_of_block, unpack, unpack_block, unpack_run,
 };
+use encoding_kernels::simd::joined::are_256_below;
 use encoding_kernels::simd::scan::{
-    BytesBelow, are_bytes_below, are_four_blocks_below, prefix_after_stride, prefix_len_below,
+    BytesBelow, are_bytes_below, prefix_after_stride, prefix_len_below,
     run_len_below,
 };
 use encoding_kernels::simd::short::pass_short;
@@ -159,7 +160,7 @@ pub(crate) fn copy_ascii_prefix(src: &[u8], dst: &mut [u8]) -> usize
 /// Returns whether 256 bytes of ASCII follow the first four bytes.
 #[inline(always)]
 pub(crate) fn precedes_ascii(bytes: &[u8]) -> bool {
-    bytes.len() >= 4 + FOUR_BLOCKS && are_four_blocks_below(&bytes[4..4 + FOUR_BLOCKS], ASCII_END)
+    bytes.len() >= 4 + FOUR_BLOCKS && are_256_below(bytes, 4, ASCII_END)
 }
 
 /// Copies blocks of ASCII from the start, each byte as a UTF-16 code unit, and returns how many bytes these are: all if all are
@@ -188,14 +189,22 @@ fn unpack_blocks(src: &[u8], dst: &mut [u16]) -> usize
     at
 }
 
-/// Copies the longest ASCII prefix, each byte as a UTF-16 code unit, and returns its length. The last stride may overlap the
-/// one before it, so a loop is left only fewer than sixteen bytes.
-#[inline(always)]
-fn unpack_strides(src: &[u8], dst: &mut [u16]) -> usize
+/// Copies the longest ASCII prefix, each byte as a UTF-16 code unit, and returns its length. It ends in the first 64 bytes, if there
+/// are that many: one mask has its end, and two vectors copy what precedes that. Of fewer, the last stride may overlap the one
+/// before it, so a loop is left only fewer than sixteen. Out of line, so that callers inline `unpack_blocks`.
+#[inline(never)]
+fn unpack_rest(src: &[u8], dst: &mut [u16]) -> usize
     requires dst_length { length src.now ≤ length dst.old }
+    requires other { 64 ≤ length src.now → AllBelow 0x80 src.now 0 64 → ⊥ }
     ensures prefix { IsLongestPrefix IsAscii src.now result }
     ensures copied { WritesPrefix dst.old dst.new result (take result src.now) }
 {
+    if src.len() >= BLOCK {
+        let run = first_block_prefix(src);
+        let text = BytesToUnits { src: &src[..run] };
+        write_short::<BLOCK, _, _>(&text, dst);
+        return run;
+    }
     let whole = length_of_strides(src.len());
     if let Some((_, place)) = ascii_to_basic_latin(&src[..whole], dst) {
         return place;
@@ -207,24 +216,6 @@ fn unpack_strides(src: &[u8], dst: &mut [u16]) -> usize
     let run = run_len_below::<STRIDE>(src, last, ASCII_END);
     unpack_run(src, dst, last, run);
     last + run
-}
-
-/// Copies the longest ASCII prefix, each byte as a UTF-16 code unit, and returns its length. It ends in the first 64 bytes, if there
-/// are that many: one mask has its end, and two vectors copy what precedes that. Out of line, so that callers inline `unpack_blocks`.
-#[inline(never)]
-fn unpack_rest(src: &[u8], dst: &mut [u16]) -> usize
-    requires dst_length { length src.now ≤ length dst.old }
-    requires other { 64 ≤ length src.now → AllBelow 0x80 src.now 0 64 → ⊥ }
-    ensures prefix { IsLongestPrefix IsAscii src.now result }
-    ensures copied { WritesPrefix dst.old dst.new result (take result src.now) }
-{
-    if src.len() < BLOCK {
-        return unpack_strides(src, dst);
-    }
-    let run = first_block_prefix(src);
-    let text = BytesToUnits { src: &src[..run] };
-    write_short::<BLOCK, _, _>(&text, dst);
-    run
 }
 
 /// Copies the longest ASCII prefix, each byte as a UTF-16 code unit, and returns its length. Inline, for a call outside loops on

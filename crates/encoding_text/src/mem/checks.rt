@@ -10,8 +10,9 @@ use crate::ascii::ascii_valid_up_to;
 use crate::ascii::prefixes::is_short;
 use encoding_kernels::latin1::validate::{BEYOND_LATIN1, latin1_blocks};
 use encoding_kernels::scalar::is_continuation;
+use encoding_kernels::simd::joined::are_256_below;
 use encoding_kernels::simd::scan::{
-    are_bytes_below, are_four_blocks_below, are_units_below, prefix_after_stride, prefix_len_below,
+    are_bytes_below, are_units_below, prefix_after_stride, prefix_len_below,
     run_len_below,
 };
 use encoding_kernels::simd::width::{
@@ -37,7 +38,7 @@ pub fn is_ascii(buffer: &[u8]) -> bool
     let (sixteens, _) = strides.as_chunks::<SIXTEEN>();
     let mut at = 0;
     for sixteen in sixteens {
-        if !are_four_blocks_below(sixteen.as_flattened(), ASCII_END) {
+        if !are_256_below(sixteen.as_flattened(), 0, ASCII_END) {
             return false;
         }
         at += FOUR_BLOCKS;

@@ -17,7 +17,7 @@ pub loop-read-preserved : goal.loop-read-preserved
 loop-read-preserved g c =
     advance_then c.args.order g.U.CodeUnit.encode [] [] [] c.args.src.now _ _ _ _ _ _ _
     (advance_then c.args.order g.U.CodeUnit.encode [] [] [] c.args.src.now _ _ _ _ _ _ _ c.loop-read.invariant c.convert_block-more.ensures.characters)
-    c.write_ascii-ascii.ensures
+    c.write_ascii_after-ascii.ensures
 
 pub returns-then-full-clause-characters : goal.returns-then-full-clause-characters
 returns-then-full-clause-characters g c =

@@ -18,7 +18,7 @@ loop-sixteen-preserved c =
     let here = c.loop-sixteen.invariant in
     let part = group_part 16 c.args.bytes.now strides.front strides.front_len 16 [] groups.front groups.front_len
     c.loop-sixteen-test.true c.as_flattened.ensures.value here.place in
-    record { place = omega (arith, here.place); below = below_more part here.below 256 (omega arith) (c.if-not-are_four_blocks_below.ensures.0 refl) }
+    record { place = omega (arith, here.place); below = below_more part here.below 256 (omega arith) (c.if-not-are_256_below.ensures.0 refl) }
 
 pub loop-i-preserved : goal.loop-i-preserved
 loop-i-preserved c =

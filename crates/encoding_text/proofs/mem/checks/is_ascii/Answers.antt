@@ -8,14 +8,14 @@ returns-then-not-are_bytes_below c =
     let part = first_part 16 c.args.buffer.now c.in-Some.first.now strides.front strides.front_len c.in-Some.ensures.value in
     (λ e. absurd (cc), λ ascii. c.if-not-are_bytes_below.ensures.1 (part_below part ascii))
 
-pub returns-then-not-are_four_blocks_below : goal.returns-then-not-are_four_blocks_below
-returns-then-not-are_four_blocks_below c =
+pub returns-then-not-are_256_below : goal.returns-then-not-are_256_below
+returns-then-not-are_256_below c =
     let strides = c.as_chunks.ensures in
     let groups = c.as_chunks-2.ensures in
     let here = c.loop-sixteen.invariant in
     let part = group_part 16 c.args.buffer.now strides.front strides.front_len 16 [] groups.front groups.front_len
     c.loop-sixteen-test.true c.as_flattened.ensures.value here.place in
-    (λ e. absurd (cc), λ ascii. c.if-not-are_four_blocks_below.ensures.1 (part_below part ascii))
+    (λ e. absurd (cc), λ ascii. c.if-not-are_256_below.ensures.1 (part_below part ascii))
 
 pub loop-sixteen-preserved : goal.loop-sixteen-preserved
 loop-sixteen-preserved c =
@@ -24,7 +24,7 @@ loop-sixteen-preserved c =
     let here = c.loop-sixteen.invariant in
     let part = group_part 16 c.args.buffer.now strides.front strides.front_len 16 [] groups.front groups.front_len
     c.loop-sixteen-test.true c.as_flattened.ensures.value here.place in
-    record { place = omega (arith, here.place); below = below_more part here.below 256 (omega arith) (c.if-not-are_four_blocks_below.ensures.0 refl) }
+    record { place = omega (arith, here.place); below = below_more part here.below 256 (omega arith) (c.if-not-are_256_below.ensures.0 refl) }
 
 pub returns-then-not-are_bytes_below-2 : goal.returns-then-not-are_bytes_below-2
 returns-then-not-are_bytes_below-2 c =
