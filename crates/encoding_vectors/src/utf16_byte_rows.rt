@@ -1,6 +1,8 @@
 //! UTF-16BE and UTF-16LE: the examples of the Unicode Standard, section 3.10, and values of Python's codecs.
 
-use encoding_text::utf_16::{ByteOrder, decode_utf16_bytes, encode_utf16_bytes};
+use encoding_text::utf_16::{
+    ByteOrder, copy_utf16_bytes_to_ascii, decode_utf16_bytes, encode_utf16_bytes,
+};
 
 /// The code units of the examples D96 and D97.
 const UNITS: [u16; 5] = [0x004D, 0x0430, 0x4E8C, 0xD800, 0xDF02];
@@ -71,4 +73,37 @@ fn whole_units_are_encoded() -> bool {
 fn cuts_no_code_unit(rt: HostRuntime) {
     assert!(rt; whole_units_are_decoded());
     assert!(rt; whole_units_are_encoded());
+}
+
+/// Returns whether ASCII is copied up to another code unit, here the 67th, and the rest of the destination is unchanged.
+fn ascii_is_copied(order: ByteOrder) -> bool {
+    let mut units = [0x61; 70];
+    units[66] = 0xE4;
+    let mut bytes = [0; 140];
+    let mut copied = [0x71; 70];
+    let mut expected = [0x61; 70];
+    expected[66..].copy_from_slice(&[0x71; 4]);
+    encode_utf16_bytes(order, &units, &mut bytes) == (70, 140)
+        && copy_utf16_bytes_to_ascii(order, &bytes, &mut copied) == 66
+        && copied == expected
+}
+
+/// Returns whether ASCII is copied up to the end of a shorter destination, and up to an odd byte: `61 00 62 00 63 00 64`.
+fn fitting_ascii_is_copied() -> bool {
+    let bytes = [0x61, 0x00, 0x62, 0x00, 0x63, 0x00, 0x64];
+    let mut two = [0; 2];
+    let mut four = [0x71; 4];
+    copy_utf16_bytes_to_ascii(ByteOrder::LittleEndian, &bytes, &mut two) == 2
+        && two == [0x61, 0x62]
+        && copy_utf16_bytes_to_ascii(ByteOrder::LittleEndian, &bytes, &mut four) == 3
+        && four == [0x61, 0x62, 0x63, 0x71]
+        && copy_utf16_bytes_to_ascii(ByteOrder::BigEndian, &bytes, &mut four) == 0
+        && four == [0x61, 0x62, 0x63, 0x71]
+}
+
+#[test]
+fn copies_ascii_up_to_other_units(rt: HostRuntime) {
+    assert!(rt; ascii_is_copied(ByteOrder::LittleEndian));
+    assert!(rt; ascii_is_copied(ByteOrder::BigEndian));
+    assert!(rt; fitting_ascii_is_copied());
 }

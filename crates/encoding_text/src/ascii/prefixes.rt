@@ -14,8 +14,7 @@ use encoding_kernels::simd::copy::{
 };
 use encoding_kernels::simd::joined::are_256_below;
 use encoding_kernels::simd::scan::{
-    BytesBelow, are_bytes_below, prefix_after_stride, prefix_len_below,
-    run_len_below,
+    BytesBelow, are_bytes_below, prefix_after_stride, prefix_len_below, run_len_below,
 };
 use encoding_kernels::simd::short::pass_short;
 pub(crate) use encoding_kernels::simd::short::{

@@ -8,8 +8,8 @@ unpack_rest-requires-clause-other c =
     let at = c.unpack_blocks-at.result in
     let blocks = c.unpack_blocks-at.ensures in
     λ long. let fits : at + 64 ≤ length src =
-      omega (arith, long, length-take-le (length src - at) (drop at src) (omega (arith, blocks.within, length-drop at src))) in
-      block_stops src at blocks.within fits (blocks.stops fits)
+    omega (arith, long, length-take-le (length src - at) (drop at src) (omega (arith, blocks.within, length-drop at src))) in
+    block_stops src at blocks.within fits (blocks.stops fits)
 
 pub returns-clause-prefix : goal.returns-clause-prefix
 returns-clause-prefix c =

@@ -2,6 +2,7 @@ use Rattle.std.proofs.Common.{arith, length-take-le, refl}
 use Rattle.encoding_definitions.proofs.PrefixesLemmas.{WritesPrefix-same}
 use Rattle.encoding_text.proofs.WholePrefixesLemmas.{first_run, fitting_ascii, fitting_prefix, fitting_copied, prefix_on, copied_on}
 use Rattle.encoding_text.proofs.ascii.prefixes.unpack_rest.Goals as goal
+
 pub returns-then-src-ge-BLOCK-clause-prefix : goal.returns-then-src-ge-BLOCK-clause-prefix
 returns-then-src-ge-BLOCK-clause-prefix c =
     first_run c.args.src.now c.first_block_prefix-run.result c.if-src-ge-BLOCK.true c.first_block_prefix-run.ensures (c.requires.other c.if-src-ge-BLOCK.true)
