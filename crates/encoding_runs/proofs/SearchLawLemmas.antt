@@ -1,19 +1,16 @@
 -- Calls of a search in sequence find the malformed sequences among the parts of all bytes, and these have one list of
 -- offsets, lengths and kinds.
 use Rattle.std.proofs.Common.{◌≡◌, ℕ, ◌+◌, ◌≤◌, ◌||◌, inl, Bool, true, false, List, [], ◌∷◌, ◌++◌, length, map, take, drop, encode_utf8, refl, sym, ap, ◌∙◌, arith, subst}
-use Rattle.std.specs.Prelude.{Any}
 use Rattle.std.specs.List.{flat_map}
 use Rattle.std.proofs.lemmas.Bool.{or_parts}
 use Rattle.std.proofs.lemmas.List.{append-nil, append_assoc, drop_all, length-append, length-drop, length-take, nil_from_length}
 use Rattle.encoding_definitions.specs.Parts.{Part, Character, IllFormed, bytes_of, StartsWith, IsFirstPart}
 use Rattle.encoding_definitions.specs.Sequence.{IsPending}
 use Rattle.encoding_definitions.proofs.DecompositionLemmas.{StartsWith-bytes, same_parts}
-use Rattle.encoding_runs.specs.declared.malformed.Malformation.{Malformation}
 use Rattle.encoding_runs.specs.declared.search.StreamMalformation.{StreamMalformation}
 use Rattle.encoding_runs.specs.declared.search.SearchedBlock.{SearchedBlock}
 use Rattle.encoding_runs.specs.Calls.{Call, IsChain, read_in_all, output_of, pending_after, some_last}
 use Rattle.encoding_runs.specs.MalformedSequences.{malformed_indices}
-use Rattle.encoding_runs.specs.Malformations.{IsMalformation}
 use Rattle.encoding_runs.specs.Searches.{AreMalformed, IsBlockSearch, StartInTurn, FindTheMalformed, IsFinished, AreAllMalformed}
 use Rattle.encoding_runs.proofs.ChainLemmas.{unread_bytes, of_piece, yielded_bytes, chain_ends}
 use Rattle.encoding_runs.proofs.MalformationLemmas.{one_kind}

@@ -1,16 +1,15 @@
 -- The search for malformed sequences: the kind of one for any bytes that follow, and what calls find in sequence.
-use Rattle.std.proofs.Common.{◌≡◌, ℕ, ◌+◌, ◌-◌, ◌<◌, ◌≤◌, ◌↔◌, inl, inr, Bool, true, false, List, [], ◌∷◌, ◌++◌, length, map, take, drop, slice_index, set, encode_utf8, encode_utf8_all, refl, sym, ap, ◌∙◌, arith, subst, true≢false}
+use Rattle.std.proofs.Common.{◌≡◌, ℕ, ◌+◌, ◌<◌, ◌≤◌, ◌↔◌, inl, inr, Bool, true, false, List, [], ◌∷◌, ◌++◌, length, map, take, drop, slice_index, set, encode_utf8, refl, sym, ap, ◌∙◌, arith, subst}
 use Rattle.std.specs.List.{flat_map}
-use Rattle.std.specs.Str.{all_scalars, chars}
-use Rattle.std.proofs.lemmas.List.{append-nil, append_assoc, drop-drop, length-append, length-drop, length-take, nil_from_length}
+use Rattle.std.specs.Str.{chars}
+use Rattle.std.proofs.lemmas.List.{append-nil, append_assoc, drop-drop, length-append, length-take}
 use Rattle.std.proofs.lemmas.Grind.{flat_map-append}
-use Rattle.encoding_definitions.specs.Parts.{Part, Character, IllFormed, bytes_of, StartsWith, ArePartsOf, Yields}
+use Rattle.encoding_definitions.specs.Parts.{Part, Character, IllFormed, bytes_of, Yields}
 use Rattle.encoding_definitions.specs.Prefixes.{WritesPrefix}
-use Rattle.encoding_definitions.specs.Sequence.{IsIncomplete, IsPending, IsNeverLeading}
+use Rattle.encoding_definitions.specs.Sequence.{IsIncomplete, IsPending}
 use Rattle.encoding_definitions.proofs.DecompositionLemmas.{StartsWith-bytes}
-use Rattle.encoding_definitions.proofs.PrefixesLemmas.{WritesPrefix-nil, WritesPrefix_push}
-use Rattle.encoding_text.specs.Decoding.{IsMalformed, BorrowedDecodeStep, AreBorrowed}
-use Rattle.encoding_text.specs.declared.decoder.Piece.{Piece}
+use Rattle.encoding_definitions.proofs.PrefixesLemmas.{WritesPrefix_push}
+use Rattle.encoding_text.specs.Decoding.{IsMalformed, BorrowedDecodeStep}
 use Rattle.encoding_text.specs.declared.decoder.Piece.TheVariants as piece
 use Rattle.encoding_text.proofs.BorrowedLemmas.{borrowed_yields}
 use Rattle.encoding_text.proofs.RepairingLemmas.{yields_then}
@@ -20,8 +19,7 @@ use Rattle.encoding_runs.specs.Malformations.{IsMalformation}
 use Rattle.encoding_runs.specs.declared.search.StreamMalformation.{StreamMalformation}
 use Rattle.encoding_runs.specs.declared.search.SearchPiece.{SearchPiece}
 use Rattle.encoding_runs.specs.declared.search.SearchPiece.TheVariants.{Text, Char, Malformed, InputEmpty}
-use Rattle.encoding_runs.specs.declared.search.SearchedBlock.{SearchedBlock}
-use Rattle.encoding_runs.specs.Searches.{AreMalformed, IsSearchPiece, SearchStep, IsBlockSearch}
+use Rattle.encoding_runs.specs.Searches.{AreMalformed, SearchStep, IsBlockSearch}
 use Rattle.encoding_text.proofs.CallLemmas.{malformed_some, malformed_first}
 use Rattle.encoding_runs.proofs.MalformedLemmas.{first_size}
 use Rattle.encoding_runs.proofs.ChainLemmas.{yielded_bytes}

@@ -5,7 +5,7 @@ pub(crate) mod code_unit;
 pub(crate) mod pending;
 mod window;
 
-ghost use Rattle.std.specs.Prelude.{◌≡◌, ◌≢◌, ℕ, ◌<◌, ◌≤◌, ◌↔◌, ◌⊎◌, ◌+◌, ◌-◌, ◌*◌, List, [], length, drop, encode_utf8, IsTrue, IsFalse};
+ghost use Rattle.std.specs.Prelude.{◌≡◌, ◌≢◌, ◌<◌, ◌≤◌, ◌↔◌, ◌⊎◌, ◌+◌, ◌-◌, ◌*◌, [], length, drop, encode_utf8, IsTrue};
 ghost use Rattle.std.specs.Option.{SomeIff};
 ghost use Rattle.std.specs.Char.Escape.{encode_utf16};
 ghost use Rattle.encoding_text.specs.Decoding.{IsReport, Suffices};
@@ -19,7 +19,7 @@ use encoding_text::mem::utf16_valid_up_to;
 use encoding_text::utf_16::{ByteOrder, decode_utf16_bytes};
 use pending::Pending;
 use std::marker::Model;
-use window::{First, WINDOW, first_of};
+use window::{First, first_of};
 
 /// How many code units are decoded at a time from a source of no more: a call pays for clearing the array that they are
 /// in.

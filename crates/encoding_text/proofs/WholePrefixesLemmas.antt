@@ -69,10 +69,6 @@ prefix_of_first_units xs n k within prefix l =
     ascii_prefix_at xs k (omega arith) (λ i p. subst (λ b. b < 0x80) (same i (omega arith)) (below_prefix (take n xs) k prefix i p))
     (subst (λ b. 0x80 ≤ b) (same k l) (ascii_stops (take n xs) k prefix (omega (arith, length-take-le n xs within))))
 
--- the first n units are ASCII, if their ASCII prefix doesn't end before they do
-pub first_units_ascii : (xs : List ℕ) (n k : ℕ) → n ≤ length xs → IsLongestPrefix IsAscii (take n xs) k → n ≤ k → IsAscii (take n xs)
-first_units_ascii xs n k within prefix l = subst IsAscii (take_all k (take n xs) (omega (arith, length-take-le n xs within))) prefix.kind
-
 -- the ASCII prefix of a block that isn't all ASCII
 pub first_run : (xs : List ℕ) (run : ℕ) → 64 ≤ length xs → IsRunBelow 0x80 xs 0 64 run → (AllBelow 0x80 xs 0 64 → ⊥) → IsLongestPrefix IsAscii xs run
 first_run xs run long r stops = elim (cases_lt run 64) [

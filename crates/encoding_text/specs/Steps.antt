@@ -11,8 +11,8 @@ use Rattle.encoding_definitions.specs.Sequence.{IsIncomplete, IsPending, IsSeque
 use Rattle.encoding_text.specs.Decoding.{IsMalformed}
 use Rattle.encoding_text.specs.declared.decoder.DecoderResult.{DecoderResult}
 use Rattle.encoding_text.specs.declared.decoder.DecoderResult.TheVariants.{InputEmpty, OutputFull, Malformed}
-use Rattle.encoding_text.specs.declared.utf_8.validate.First.{First}
-use Rattle.encoding_text.specs.declared.utf_8.validate.First.TheVariants as first
+use Rattle.encoding_text.specs.declared.utf_8.first.First.{First}
+use Rattle.encoding_text.specs.declared.utf_8.first.First.TheVariants as first
 use Rattle.encoding_text.specs.declared.decoder.pending.Pushed.{Pushed}
 use Rattle.encoding_text.specs.declared.decoder.pending.Pushed.TheVariants as push
 use Rattle.encoding_text.specs.declared.decoder.pending.Resumed.{Resumed}

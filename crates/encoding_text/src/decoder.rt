@@ -8,7 +8,7 @@ ghost use Rattle.encoding_definitions.specs.Sequence.{IsPending, IsIncomplete};
 ghost use Rattle.encoding_text.specs.Decoding.{DecodeStepInto, BorrowedDecodeStep};
 
 use crate::ascii::prefixes::is_short;
-use crate::utf_8::validate::First;
+use crate::utf_8::first::First;
 use crate::utf_8::{CodeUnit, valid_beyond_ascii};
 use encoding_kernels::lengths::SHORT;
 use encoding_kernels::scalar::decode_utf8_scalar;

@@ -1,7 +1,7 @@
 //! UTF-16BE and UTF-16LE: Unicode Standard, section 3.10, and Encoding Standard, sections 14.2 to 14.4. Each code unit is
 //! two bytes. A call leaves the rest of `dst` unchanged.
 
-ghost use Rattle.std.specs.Prelude.{◌≡◌, ℕ, ◌+◌, ◌*◌, ◌/◌, ◌∷◌, ◌++◌, ◌<◌, ◌≤◌, [], List, length, min, take, drop};
+ghost use Rattle.std.specs.Prelude.{◌≡◌, ℕ, ◌+◌, ◌*◌, ◌/◌, ◌++◌, ◌<◌, ◌≤◌, List, length, min, take, drop};
 ghost use Rattle.std.specs.Str.{IsAscii};
 ghost use Rattle.encoding_definitions.specs.Prefixes.{WritesPrefix};
 ghost use Rattle.encoding_text.specs.Utf16Bytes.{unit_bytes, utf16_bytes};

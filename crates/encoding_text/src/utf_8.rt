@@ -1,9 +1,10 @@
 //! UTF-8: Unicode Standard, section 3.9, and Encoding Standard, section 8.1.
 mod encoder;
+pub(crate) mod first;
 pub(crate) mod from_utf16;
 mod table;
 mod to_utf16;
-pub(crate) mod validate;
+mod validate;
 
 pub use encoder::{EncoderResult, Utf8Encoder};
 pub use from_utf16::{convert_utf16_to_utf8_partial_inner, convert_utf16_to_utf8_partial_tail};

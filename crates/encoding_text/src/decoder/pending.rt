@@ -6,7 +6,7 @@ ghost use Rattle.encoding_text.specs.Decoding.{IsMalformed};
 ghost use Rattle.encoding_text.specs.Steps.{GoesOn};
 
 use super::DecoderResult;
-use crate::utf_8::validate::{First, goes_on};
+use crate::utf_8::first::{First, goes_on};
 use encoding_kernels::scalar::sequence_length;
 use std::marker::Model;
 

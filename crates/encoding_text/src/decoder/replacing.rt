@@ -8,7 +8,7 @@ ghost use Rattle.encoding_text.specs.Replacing.{ConvertsParts};
 use super::pending::Pending;
 use super::{DecoderResult, decode};
 use crate::utf_8::CodeUnit;
-use crate::utf_8::validate::First;
+use crate::utf_8::first::First;
 use encoding_kernels::scalar::write_scalar;
 
 /// The scalar value that replaces a malformed sequence.

@@ -11,8 +11,8 @@ ghost use Rattle.encoding_kernels.specs.RightToLeft.{rtl_second_end, rtl_mark_le
 
 use super::checks::{LATIN1_END, str_latin1_up_to, utf8_latin1_up_to};
 use crate::ascii::prefixes::ascii_valid_up_to_by_length;
+use crate::utf_8::first::character_length;
 use crate::utf_8::utf8_valid_up_to;
-use crate::utf_8::validate::character_length;
 use encoding_kernels::bidi::bytes::{FIRST_LEAD, skip_clear};
 use encoding_kernels::bidi::units::{FIRST_UNIT, skip_clear_units};
 use encoding_kernels::scalar::decode_utf8_scalar;

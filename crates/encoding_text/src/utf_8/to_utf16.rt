@@ -8,9 +8,8 @@ ghost use Rattle.encoding_definitions.specs.Prefixes.{WritesPrefix};
 ghost use Rattle.encoding_definitions.specs.Converting.{ConvertsMaximal};
 ghost use Rattle.encoding_text.specs.Steps.{ConvertsUntilFull};
 
-use super::validate::{
-    First, character_length, utf8_valid_up_to, valid_beyond_ascii, valid_up_to_by_vectors,
-};
+use super::first::{First, character_length};
+use super::validate::{utf8_valid_up_to, valid_beyond_ascii, valid_up_to_by_vectors};
 use crate::ascii::prefixes::{
     BytesToUnits, copy_prefix_of_text, copy_to_basic_latin, is_short, precedes_ascii,
     unpack_ascii_prefix, write_short,

@@ -1,4 +1,4 @@
-use Rattle.std.proofs.Common.{◌≡◌, ◌+◌, ℕ, false, length, refl, true, true≢false, arith}
+use Rattle.std.proofs.Common.{◌≡◌, ◌+◌, length, refl, true, true≢false, arith}
 use Rattle.std.proofs.lemmas.Bool.Decides.{nat_tests}
 use Rattle.std.proofs.lemmas.List.{length-drop, take_rest}
 use Rattle.encoding_definitions.proofs.PrefixesLemmas.{WritesPrefix-length}

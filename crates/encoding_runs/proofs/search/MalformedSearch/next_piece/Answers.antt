@@ -1,4 +1,4 @@
-use Rattle.std.proofs.Common.{◌≡◌, ◌∙◌, ◌++◌, ap, arith, length, sym, subst, take}
+use Rattle.std.proofs.Common.{ap, arith, length, take}
 use Rattle.std.proofs.lemmas.List.{length-append, take_rest}
 use Rattle.encoding_runs.proofs.RepairLemmas.{pending_length}
 use Rattle.encoding_runs.proofs.SearchLemmas.{malformed_few, malformed_step}

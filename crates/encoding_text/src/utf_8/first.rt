@@ -1,0 +1,178 @@
+//! What bytes begin with: ASCII, a character of several bytes, a malformed sequence, or an incomplete one. Unicode Standard,
+//! Table 3-7, and Encoding Standard, section 8.1.1.
+ghost use Rattle.std.specs.Prelude.{◌<◌, ◌≤◌, ◌↔◌, ◌⊎◌, [], ◌∷◌, length, take, slice_index, IfSome, IfNone, IsTrue};
+ghost use Rattle.encoding_definitions.specs.Sequence.{IsSequence, IsIncomplete};
+ghost use Rattle.encoding_definitions.specs.Parts.{BeginsWithNoCharacter};
+ghost use Rattle.encoding_text.specs.Steps.{GoesOn};
+
+use crate::utf_8::table::{UTF8_DATA, law_table};
+use encoding_kernels::scalar::{
+    begins_several, is_continuation, is_lead_with_continuation, is_second, sequence_length,
+};
+
+/// What bytes begin with.
+#[derive(Drop)]
+pub(crate) enum First {
+    /// An ASCII byte.
+    Ascii,
+    /// A character of this many bytes, two to four.
+    Character(usize),
+    /// A malformed sequence of this many bytes, one to three.
+    Malformed(usize),
+    /// Nothing or an incomplete sequence, after which the bytes end.
+    Incomplete,
+}
+
+/// Returns whether three bytes are one character, for a first byte that starts no character of one, two or four.
+#[inline(always)]
+fn is_three(lead: u8, second: u8, third: u8) -> bool
+    requires leads { ((0x80 ≤ lead) × (lead ≤ 0xC1)) ⊎ ((0xE0 ≤ lead) × (lead ≤ 0xEF)) }
+    ensures { IsTrue result ↔ IsSequence (lead ∷ second ∷ third ∷ []) }
+{
+    law_table(lead, second, third, 0);
+    (UTF8_DATA.table[second as usize] & UTF8_DATA.table[lead as usize + 0x80]) | (third >> 6) == 2
+}
+
+/// Returns whether four bytes are one character, for a first byte that starts no shorter one.
+#[inline(always)]
+fn is_four(lead: u8, second: u8, third: u8, fourth: u8) -> bool
+    requires leads { 0xF0 ≤ lead }
+    ensures { IsTrue result ↔ IsSequence (lead ∷ second ∷ third ∷ fourth ∷ []) }
+{
+    law_table(lead, second, third, fourth);
+    let common = UTF8_DATA.table[second as usize] & UTF8_DATA.table[lead as usize + 0x80];
+    u16::from(common) | u16::from(third >> 6) | (u16::from(fourth & 0xC0) << 2) == 0x202
+}
+
+/// Returns whether the byte may follow the first `count` bytes of a sequence that starts with `lead`.
+pub(crate) fn goes_on(lead: u8, count: usize, byte: u8) -> bool
+    ensures { IsTrue result ↔ GoesOn lead count byte }
+{
+    if count == 1 {
+        is_second(lead, byte)
+    } else {
+        is_continuation(byte)
+    }
+}
+
+impl First {
+    ghost use Rattle.encoding_text.specs.Steps.{IsFirst};
+
+    /// Returns what the first two bytes show, or `None` if a continuation byte follows one that begins a sequence of several:
+    /// then most often a character is first. The first byte isn't ASCII.
+    #[inline(always)]
+    pub(crate) fn of_two(bytes: &[u8]) -> Option<First>
+        requires not_empty { 0 < length bytes.now }
+        requires lead { 0x80 ≤ slice_index bytes.now 0 }
+        ensures shown { IfSome result (λ first. IsFirst bytes.now first) }
+        ensures several { IfNone result (IsIncomplete (take 1 bytes.now)) }
+    {
+        let lead = bytes[0];
+        if bytes.len() > 1 {
+            if is_lead_with_continuation(lead, bytes[1]) {
+                return None;
+            }
+            return Some(First::Malformed(1));
+        }
+        if begins_several(lead) {
+            return Some(First::Incomplete);
+        }
+        Some(First::Malformed(1))
+    }
+
+    /// Returns what the bytes begin with, one byte at a time. The first isn't ASCII. Out of line: text seldom needs it.
+    #[inline(never)]
+    pub(crate) fn by_bytes(bytes: &[u8]) -> First
+        requires not_empty { 0 < length bytes.now }
+        requires lead { 0x80 ≤ slice_index bytes.now 0 }
+        ensures { IsFirst bytes.now result }
+    {
+        let lead = bytes[0];
+        if !begins_several(lead) {
+            return First::Malformed(1);
+        }
+        let length = sequence_length(lead);
+        let mut known = 1;
+        while known < length {
+            if known == bytes.len() {
+                return First::Incomplete;
+            }
+            if !goes_on(lead, known, bytes[known]) {
+                return First::Malformed(known);
+            }
+            known += 1;
+        }
+        First::Character(known)
+    }
+
+    /// Returns whether the first two bytes show that no character is first. The first byte isn't ASCII.
+    #[inline(always)]
+    pub(crate) fn begins_none(bytes: &[u8]) -> bool
+        requires not_empty { 0 < length bytes.now }
+        requires lead { 0x80 ≤ slice_index bytes.now 0 }
+        ensures { IsTrue result → BeginsWithNoCharacter bytes.now }
+    {
+        match First::of_two(bytes) {
+            Some(First::Malformed(_)) => true,
+            Some(First::Incomplete) => true,
+            _ => false,
+        }
+    }
+
+    /// Returns what the bytes begin with, exactly.
+    #[tactic(auto, using(crate::proofs::CallLemmas::not_ascii))]
+    #[inline(always)]
+    pub(crate) fn of(bytes: &[u8]) -> First
+        ensures { IsFirst bytes.now result }
+    {
+        if bytes.is_empty() {
+            return First::Incomplete;
+        }
+        let Some(length) = character_length(bytes) else {
+            return First::by_bytes(bytes);
+        };
+        if length == 1 {
+            return First::Ascii;
+        }
+        First::Character(length)
+    }
+}
+
+/// Returns the length of the character at the start of the bytes, if there is one. If there are four bytes, the table decides
+/// characters of three and of four.
+#[tactic(auto, using(std::proofs::lemmas::Bool::both_ways, encoding_definitions::proofs::SequenceLemmas::no_character_reads))]
+#[inline(always)]
+pub(crate) fn character_length(bytes: &[u8]) -> Option<usize>
+    ensures length { IfSome result (λ n. (0 < n) × (n ≤ length bytes.now) × IsSequence
+        (take n bytes.now)) }
+    ensures no_character { IfNone result (BeginsWithNoCharacter bytes.now) }
+{
+    if bytes.is_empty() {
+        return None;
+    }
+    let lead = bytes[0];
+    if lead < 0x80 {
+        return Some(1);
+    }
+    if bytes.len() < 4 {
+        return match First::by_bytes(bytes) {
+            First::Ascii => Some(1),
+            First::Character(length) => Some(length),
+            First::Malformed(_) => None,
+            First::Incomplete => None,
+        };
+    }
+    if 0xC2 <= lead && lead < 0xE0 {
+        return is_continuation(bytes[1]).then_some(2);
+    }
+    if lead < 0xF0 {
+        if !is_three(lead, bytes[1], bytes[2]) {
+            return None;
+        }
+        return Some(3);
+    }
+    if !is_four(lead, bytes[1], bytes[2], bytes[3]) {
+        return None;
+    }
+    Some(4)
+}
