@@ -225,10 +225,12 @@ pub fn well_formed_short(src: &[u8]) -> usize
     requires { (8 ≤ length src.now) × (length src.now ≤ 64) }
     ensures { (result ≤ length src.now) × IsUtf8 (take result src.now) }
 {
-    let clean = match src.len() {
-        35.. => clean_of_first_64(src),
-        STRIDE.. => clean_of_first_32(src),
-        _ => clean_of_few(src),
+    let clean = if src.len() >= 35 {
+        clean_of_first_64(src)
+    } else if src.len() >= STRIDE {
+        clean_of_first_32(src)
+    } else {
+        clean_of_few(src)
     };
     back(src, clean)
 }

@@ -42,19 +42,17 @@ pub(crate) fn first_block_prefix(bytes: &[u8]) -> usize
 }
 
 /// Returns the length of the longest ASCII prefix, as `ascii_valid_up_to` does, of at least N and at most 2 * N bytes. Two
-/// vectors find its end, which may overlap.
+/// vectors find its end, which may overlap. Both are tested, so that no branch depends on where it is.
 #[tactic(auto, using(std::proofs::lemmas::Bool::cases_lt, encoding_kernels::proofs::ScanLemmas::prefix_before))]
 #[inline(always)]
 pub(crate) fn ascii_valid_up_to_by_two<const N: usize>(bytes: &[u8]) -> usize
     requires { (0 < N) × (N ≤ 64) × (N ≤ length bytes.now) × (length bytes.now ≤ 2 * N) }
     ensures { IsLongestPrefix IsAscii bytes.now result }
 {
-    let first = run_len_below::<N>(bytes, 0, ASCII_END);
-    if first < N {
-        return first;
-    }
     let last = bytes.len() - N;
-    last + run_len_below::<N>(bytes, last, ASCII_END)
+    let first = run_len_below::<N>(bytes, 0, ASCII_END);
+    let second = run_len_below::<N>(bytes, last, ASCII_END);
+    if first < N { first } else { last + second }
 }
 
 /// Returns the length of the longest ASCII prefix, as `ascii_valid_up_to` does, by the length of the bytes. The first `KNOWN` bytes
