@@ -53,6 +53,8 @@
  * - `decode_latin1` and `encode_latin1_lossy`, which may allocate. The functions of these names here write to the
  *   caller's destination.
  * - The constants `UTF8_DATA` and `ASCII_MASK`.
+ * - `decode_to_str` and `decode_to_str_without_replacement` of a decoder, and `clear_continuation_bytes`: a destination in
+ *   C is bytes, which encoding_text_decoder_decode_to_utf8 and its like fill.
  * - The repair of a reader into a writer (`repair`, `Watch`).
  * - The laws, which are theorems.
  */

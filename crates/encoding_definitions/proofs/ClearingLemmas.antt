@@ -1,6 +1,6 @@
 -- A text whose prefix is overwritten, and that is cleared after it, is well-formed.
 use Rattle.std.proofs.Common.{◌≡◌, ℕ, suc, ◌+◌, ◌-◌, ◌<◌, inl, inr, ◌&&◌, List, [], ◌∷◌, ◌++◌, length, take, drop, get_or, refl, sym, ap, ◌∙◌, arith, nat_le, IsUtf8, append_assoc, subst}
-use Rattle.std.specs.Prelude.{replicate}
+use Rattle.std.specs.Prelude.{min, replicate}
 use Rattle.std.proofs.lemmas.Bool.{and_from, le-leb, cond-true, cond-false, cases_Bool, cases_lt, both_ways}
 use Rattle.std.proofs.lemmas.List.{append-nil, length-drop, length-take-le, take_at, take_rest, drop_at, drop-drop, drop_all, drop_more, get_or-append_right, get_or-drop, get_or-replicate, get_or_past, length-replicate, replicate_more}
 use Rattle.std.proofs.lemmas.Str.{IsUtf8-nil, IsUtf8-append, IsUtf8-drop, IsUtf8-from_ascii}
@@ -83,6 +83,13 @@ IsUtf8-cleared old out zeros u v =
     IsUtf8-append _ _ v (IsUtf8-append _ _ (IsUtf8-zeros _) rest)
 
 -- ---- a call wrote a prefix, and what follows it was cleared
+-- only continuation bytes were
+pub only_continuation : (mid sub : List ℕ) (written : ℕ) → sub ≡ clear_continuation (take (length mid - written) (drop written mid))
+    → sub ≡ cleared_prefix 0 (take (length mid - written) (drop written mid))
+only_continuation mid sub written c =
+    let bs : List ℕ = take (length mid - written) (drop written mid) in
+    c ∙ ap (λ n. replicate n 0 ++ clear_continuation bs) {x = 0} {y = min 0 (length bs)} (omega arith)
+
 module _ (old mid sub : List ℕ) (zeros written : ℕ) (out : List ℕ) (w : WritesPrefix old mid written out)
     (c : sub ≡ cleared_prefix zeros (take (length mid - written) (drop written mid))) where
   pub clears_after : WritesAndClears zeros old (put_mid written (length mid - written) mid sub) written out

@@ -16,3 +16,4 @@ pub mod SniffLemmas
 pub mod SniffCallLemmas
 pub mod ReplacingCallLemmas
 pub mod DecoderChainLemmas
+pub mod TextDestinationLemmas

@@ -120,6 +120,11 @@ pub record IsReplacingCall {A : Type 0} (encode : ℕ → List A) (need : ℕ) (
   pub replaces : Replaces encode old src dst dst' last read written replaced new
   pub ends : EndsReplacing encode need src (length dst) last result read written new
 
+-- What a call into a text leaves before it clears bytes: its output, which is the first `written` bytes of the text after
+-- it, and then the bytes that were there.
+abbrev pub before_clearing : ℕ → List ℕ → List ℕ → List ℕ
+before_clearing written dst dst' = take written dst' ++ drop written dst
+
 -- The numbers of the queries in an encoding: the length of a destination for n bytes that follow `pending` pending ones.
 abbrev pub max_utf16_length_in : Encoding → ℕ → ℕ → ℕ
 max_utf16_length_in Utf8 n pending = max_utf16_length n pending

@@ -10,15 +10,18 @@ mod state;
 ghost use Rattle.std.specs.Prelude.{◌≡◌, ◌↔◌, ◌+◌, ◌≤◌, true, false, [], length, take, encode_utf8, IsAscii, IsTrue, IsSome, IfSome};
 ghost use Rattle.std.specs.Option.{SomeIff};
 ghost use Rattle.std.specs.Char.Escape.{encode_utf16};
+ghost use Rattle.std.specs.Str.{IsUtf8};
+ghost use Rattle.encoding_definitions.specs.Clearing.{WritesAndClears};
 ghost use Rattle.encoding_definitions.specs.Prefixes.{IsLongestPrefix};
 ghost use Rattle.encoding_streams.specs.Marks.{IsUndecided};
-ghost use Rattle.encoding_streams.specs.Decoders.{IsReportingCall, IsReplacingCall, SufficesReporting, SufficesBetweenReports, SufficesReplacing, decoding, queried, max_utf16_length_in, max_utf8_length_in, max_utf8_length_with_replacement_in};
+ghost use Rattle.encoding_streams.specs.Decoders.{IsReportingCall, IsReplacingCall, SufficesReporting, SufficesBetweenReports, SufficesReplacing, before_clearing, decoding, queried, max_utf16_length_in, max_utf8_length_in, max_utf8_length_with_replacement_in};
 ghost use Rattle.encoding_streams.specs.DecoderSteps.{LeavesFree};
 
 use crate::encoding::{BomHandling, CoderResult, Encoding, begins_mark};
 use crate::utf16_decoder::pending::Pending;
 use encoding_text::ascii::ascii_valid_up_to;
 use encoding_text::decoder::DecoderResult;
+use encoding_text::mem::clear_continuation_bytes;
 use queries::{replaced_query, utf8_query, utf16_query};
 use replacing::replace;
 use state::{State, decode, is_off};
@@ -239,6 +242,34 @@ impl Decoder {
         replace::<u8>(&mut self.state, src, dst, last)
     }
 
+    /// Decodes into the start of a text, with U+FFFD for each malformed sequence, and returns the same as `decode_to_utf8`.
+    ///
+    /// `dst` is well-formed before and after. The continuation bytes directly after the output become zero, and the rest of
+    /// `dst` is unchanged.
+    pub fn decode_to_str(
+        &mut self,
+        src: &[u8],
+        dst: &mut [u8],
+        last: bool,
+    ) -> (CoderResult, usize, usize, usize)
+        requires text { IsUtf8 dst.old }
+        ensures call { IsReplacingCall encode_utf8 4 self.old src.now dst.old
+            (before_clearing result.2 dst.old dst.new) last
+            result.0 result.1 result.2 result.3 self.new }
+        ensures unchanged_after { WritesAndClears 0 dst.old dst.new result.2
+            (take result.2 dst.new) }
+        ensures text { IsUtf8 dst.new }
+
+        // If `src` has at most `byte_length` bytes and `dst` has the length that `max_utf8_buffer_length(byte_length)`
+        // returned, the call doesn't return `OutputFull`, and the space left is enough for the rest of these bytes.
+        ensures suffices { SufficesReplacing max_utf8_length_with_replacement_in self.old src.now
+            (length dst.old) last result.0 result.1 result.2 self.new }
+    {
+        let (result, read, written, replaced) = self.decode_to_utf8(src, dst, last);
+        clear_continuation_bytes(&mut dst[written..]);
+        (result, read, written, replaced)
+    }
+
     /// Decodes to UTF-16. Returns what ended the call, how many bytes of `src` it read and how many code units it wrote.
     /// `last` says that no bytes follow `src`.
     ///
@@ -297,5 +328,43 @@ impl Decoder {
             result.0 result.1 result.2 self.new }
     {
         decode::<u8>(&mut self.state, src, dst, last)
+    }
+
+    /// Decodes into the start of a text, reports malformed sequences, and returns the same as
+    /// `decode_to_utf8_without_replacement`.
+    ///
+    /// `dst` is well-formed before and after. The continuation bytes directly after the output become zero, and the rest of
+    /// `dst` is unchanged.
+    pub fn decode_to_str_without_replacement(
+        &mut self,
+        src: &[u8],
+        dst: &mut [u8],
+        last: bool,
+    ) -> (DecoderResult, usize, usize)
+        requires text { IsUtf8 dst.old }
+        ensures call { IsReportingCall encode_utf8 4 self.old src.now dst.old
+            (before_clearing result.2 dst.old dst.new) last
+            result.0 result.1 result.2 self.new }
+        ensures unchanged_after { WritesAndClears 0 dst.old dst.new result.2
+            (take result.2 dst.new) }
+        ensures text { IsUtf8 dst.new }
+        ensures free { LeavesFree 4 self.old.pending src.now (length dst.old) result.0 result.2 }
+
+        // If `src` has at most `byte_length` bytes and `dst` has the length that `max_utf8_buffer_length(byte_length)` or
+        // `max_utf8_buffer_length_without_replacement(byte_length)` returned, the call doesn't return `OutputFull`, and
+        // the space left is enough for the rest of these bytes. With the first, it is enough even after the caller writes
+        // U+FFFD.
+        ensures suffices { SufficesReporting max_utf8_length_in self.old src.now
+            (length dst.old) last
+            result.0 result.1 result.2 self.new }
+        ensures suffices_between_reports { SufficesReporting max_utf8_length_with_replacement_in
+            self.old src.now (length dst.old) last result.0 result.1 result.2 self.new }
+        ensures suffices_replacing { SufficesBetweenReports max_utf8_length_with_replacement_in
+            (length (encode_utf8 0xFFFD)) self.old src.now (length dst.old) last
+            result.0 result.1 result.2 self.new }
+    {
+        let (result, read, end) = self.decode_to_utf8_without_replacement(src, dst, last);
+        clear_continuation_bytes(&mut dst[end..]);
+        (result, read, end)
     }
 }

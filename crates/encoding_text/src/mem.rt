@@ -39,8 +39,8 @@ pub use lengths::{
 pub use replacing::{convert_utf8_to_utf16_partial, repair_slice_partial};
 pub use surrogates::{ensure_utf16_validity, utf16_valid_up_to};
 pub use text_destinations::{
-    convert_latin1_to_str, convert_latin1_to_str_partial, convert_utf16_to_str,
-    convert_utf16_to_str_partial,
+    clear_continuation_bytes, convert_latin1_to_str, convert_latin1_to_str_partial,
+    convert_utf16_to_str, convert_utf16_to_str_partial,
 };
 pub use to_utf16::{
     convert_str_to_utf16, convert_utf8_to_utf16, convert_utf8_to_utf16_without_replacement,

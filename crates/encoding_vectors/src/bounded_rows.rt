@@ -3,8 +3,9 @@
 
 use crate::texts::{bytes_of, field, is_text, number_of, units_of};
 use encoding_text::mem::{
-    convert_latin1_to_str, convert_latin1_to_str_partial, convert_latin1_to_utf8_partial,
-    convert_utf16_to_str, convert_utf16_to_str_partial, convert_utf16_to_utf8_partial,
+    clear_continuation_bytes, convert_latin1_to_str, convert_latin1_to_str_partial,
+    convert_latin1_to_utf8_partial, convert_utf16_to_str, convert_utf16_to_str_partial,
+    convert_utf16_to_utf8_partial,
 };
 use std::alloc::Global;
 use std::test::Fail;
@@ -187,4 +188,15 @@ fn rows_hold(rt: HostRuntime) -> Result<(), Fail> {
     }
     assert!(rt; count == 7);
     Ok(())
+}
+
+#[test]
+fn clears_continuation_bytes(rt: HostRuntime) {
+    let mut bytes = *b"\x80\xBF\xC3\xA9\x80";
+    clear_continuation_bytes(&mut bytes);
+    assert!(rt; bytes == *b"\0\0\xC3\xA9\x80");
+    clear_continuation_bytes(&mut bytes[2..]);
+    assert!(rt; bytes == *b"\0\0\xC3\xA9\x80");
+    clear_continuation_bytes(&mut bytes[3..]);
+    assert!(rt; bytes == *b"\0\0\xC3\0\0");
 }

@@ -1,5 +1,5 @@
 //! Tests only: the decoders of `encoding_streams` over vectors, with every set of cuts and into every short destination.
-//! And the search of a stream for malformed sequences.
+//! The search of a stream for malformed sequences, and decoding into the start of a text.
 #![tactic(auto)]
 
 #[cfg(test)]
@@ -8,6 +8,8 @@ mod decoder_streams;
 mod decoder_vectors;
 #[cfg(test)]
 mod search_rows;
+#[cfg(test)]
+mod text_rows;
 #[cfg(test)]
 mod utf16_streams;
 #[cfg(test)]

@@ -2,7 +2,7 @@
 
 ghost use Rattle.std.specs.Prelude.{◌≡◌, ◌*◌, ◌≤◌, [], ◌∷◌, length, take, encode_utf8, encode_utf8_all};
 ghost use Rattle.std.specs.Str.{IsUtf8};
-ghost use Rattle.encoding_definitions.specs.Clearing.{cleared_prefix, WritesAndClears};
+ghost use Rattle.encoding_definitions.specs.Clearing.{clear_continuation, cleared_prefix, WritesAndClears};
 ghost use Rattle.encoding_definitions.specs.Prefixes.{IsLongestFittingPrefix};
 ghost use Rattle.encoding_definitions.specs.Utf16.{IsUtf8OfLongestPrefix, IsUtf8OfUnits};
 
@@ -27,7 +27,7 @@ pub fn convert_utf16_to_str_partial(src: &[u16], dst: &mut [u8]) -> (usize, usiz
     ensures text { IsUtf8 dst.new }
 {
     let (read, written) = convert_utf16_to_utf8_partial(src, dst);
-    clear(&mut dst[written..], 0);
+    clear_continuation_bytes(&mut dst[written..]);
     (read, written)
 }
 
@@ -44,7 +44,7 @@ pub fn convert_utf16_to_str(src: &[u16], dst: &mut [u8]) -> usize
     ensures text { IsUtf8 dst.new }
 {
     let end = convert_utf16_to_utf8(src, dst);
-    clear(&mut dst[end..], 0);
+    clear_continuation_bytes(&mut dst[end..]);
     end
 }
 
@@ -83,17 +83,27 @@ pub fn convert_latin1_to_str(src: &[u8], dst: &mut [u8]) -> usize
     end
 }
 
-/// Sets the first `zeros` bytes to zero, or all if there are fewer, and then the continuation bytes directly after
-/// those. It reads no byte after the first that is no continuation byte.
+/// Sets the continuation bytes at the start of `bytes` to zero: after a write into a text, what is left of a character
+/// whose first bytes were overwritten. The rest is unchanged. It reads no byte after the first that is no continuation
+/// byte.
 #[tactic(auto, using(std::proofs::lemmas::List::Edits::fill_more, encoding_definitions::proofs::ClearingLemmas::byte_after, encoding_definitions::proofs::ClearingLemmas::clear_next))]
 #[inline(never)]
-fn clear(bytes: &mut [u8], zeros: usize)
-    ensures { bytes.new ≡ cleared_prefix zeros bytes.old }
+pub fn clear_continuation_bytes(bytes: &mut [u8])
+    ensures { bytes.new ≡ clear_continuation bytes.old }
 {
-    let mut at = zeros.min(bytes.len());
-    bytes[..at].fill(0);
+    let mut at = 0;
     while at < bytes.len() && is_continuation(bytes[at]) {
         bytes[at] = 0;
         at += 1;
     }
+}
+
+/// Sets the first `zeros` bytes to zero, or all if there are fewer, and then the continuation bytes directly after
+/// those.
+fn clear(bytes: &mut [u8], zeros: usize)
+    ensures { bytes.new ≡ cleared_prefix zeros bytes.old }
+{
+    let at = zeros.min(bytes.len());
+    bytes[..at].fill(0);
+    clear_continuation_bytes(&mut bytes[at..]);
 }
