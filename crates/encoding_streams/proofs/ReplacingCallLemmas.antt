@@ -101,86 +101,124 @@ module _ {A : Type 0} (encode : ℕ → List A) (need : ℕ) (query replacing : 
       goes_on = λ _. ((subst (λ x. EndsReporting encode need src (length dst) last x read written new) is made.call.ends).1, omega (arith, some));
     }
 
--- ---- steps one after another
+-- ---- some steps, and what follows them
+module _ {A : Type 0} (encode : ℕ → List A) (need : ℕ) (replacing : Encoding → ℕ → ℕ → ℕ) (old mid new : DecoderState) (src : List ℕ) (dst dst' sub : List A)
+    (last : Bool) (read written r w replaced more : ℕ) (first : AreReplacingSteps encode replacing old src dst dst' last read written replaced mid)
+    (second : Replaces encode mid (take (length src - read) (drop read src)) (take (length dst' - written) (drop written dst')) sub last r w more new)
+    (leaves : LeavesRoom replacing mid (take (length src - read) (drop read src)) (length (take (length dst' - written) (drop written dst'))) last r w new)
+  where
+    unread : take (length src - read) (drop read src) ≡ drop read src
+    unread = take_rest src read
+
+    size : length (take (length src - read) (drop read src)) ≡ length src - read
+    size = ap length unread ∙ length-drop read src
+
+    room : length (take (length dst' - written) (drop written dst')) ≡ length dst - written
+    room = room_after encode need dst dst' written first.replaces.out first.replaces.writes
+
+    rest : drop r (take (length src - read) (drop read src)) ≡ drop (read + r) src
+    rest = ap (drop r) unread ∙ drop-drop r read src
+
+    keeps_both : Keeps old src (read + r) new
+    keeps_both =
+        let before = first.replaces.keeps in
+        let after = second.keeps in (
+          before.0 ++ after.0,
+          ap (λ xs. old.pending ++ xs) (take-add read r src) ∙ sym (append_assoc old.pending (take read src) (take r (drop read src)))
+              ∙ ap (λ xs. xs ++ take r (drop read src)) before.1 ∙ append_assoc before.0 mid.pending (take r (drop read src))
+              ∙ ap (λ xs. before.0 ++ (mid.pending ++ take r xs)) (sym unread) ∙ ap (λ xs. before.0 ++ xs) after.1
+              ∙ sym (append_assoc before.0 after.0 new.pending),
+        )
+
+    replaces_after : Replaces encode old src dst (put_mid written (length dst' - written) dst' sub) last (read + r) (written + w) (replaced + more) new
+    replaces_after = record {
+      out = first.replaces.out ++ second.out;
+      writes = WritesPrefix_after dst dst' written first.replaces.out sub w second.out first.replaces.writes second.writes;
+      within = omega (arith, first.replaces.within, second.within, size);
+      yields = λ rest_of none. YieldText-append encode _ _ _ _ _ _ _ (first.replaces.yields rest_of none)
+          (subst (λ bs. YieldText encode (left mid (drop read src ++ rest_of)) (left new (bs ++ rest_of)) second.out more) rest
+          (subst
+          (λ bs. YieldText encode (left mid (bs ++ rest_of)) (left new (drop r (take (length src - read) (drop read src)) ++ rest_of)) second.out more) unread
+          (second.yields rest_of none)));
+      keeps = keeps_both;
+      at_most_three = second.at_most_three;
+    }
+
+    leaves_after : LeavesRoom replacing old src (length dst) last (read + r) (written + w) new
+    leaves_after = λ m l marked h.
+        let here = first.leaves m l marked h in
+        let there = leaves (m - read) (omega (arith, l, size)) (λ end. omega (arith, marked end, size)) (omega (arith, here, room)) in
+        let same : queried replacing new (m - read - r) ≡ queried replacing new (m - (read + r)) = ap (queried replacing new) (omega arith) in
+        omega (arith, there, same, room, first.replaces.writes.fits)
+
+    ends_both : (x : CoderResult)
+        → EndsReplacing encode need (take (length src - read) (drop read src)) (length (take (length dst' - written) (drop written dst')))
+        last x r w new → EndsReplacing encode need src (length dst) last x (read + r) (written + w) new
+    ends_both InputEmpty (all, end) = (omega (arith, all, size, first.replaces.within), end)
+    ends_both OutputFull is_full =
+        let free : length (take (length dst' - written) (drop written dst')) - w ≡ length dst - (written + w) = omega (arith, room) in
+        record {
+          little = omega (arith, is_full.little, room, first.replaces.writes.fits);
+          more = omega (arith, is_full.more, size);
+          next_too_long = λ none begins. is_full.next_too_long none
+              (subst (FittingBeginsIn new.encoding encode _) (sym free)
+              (subst (λ bs. FittingBeginsIn new.encoding encode bs (length dst - (written + w))) (sym rest) begins));
+        }
+
+    -- ---- a call
+    pub call_after : (x : CoderResult)
+        → EndsReplacing encode need (take (length src - read) (drop read src)) (length (take (length dst' - written) (drop written dst')))
+        last x r w new
+        → IsReplacingCall encode need old src dst (put_mid written (length dst' - written) dst' sub) last x (read + r) (written + w) (replaced + more) new
+    call_after x ends = record { replaces = replaces_after; ends = ends_both x ends }
+
+    pub suffices_after : (x : CoderResult)
+        → SufficesReplacing replacing mid (take (length src - read) (drop read src)) (length (take (length dst' - written) (drop written dst'))) last x r w new
+        → SufficesReplacing replacing old src (length dst) last x (read + r) (written + w) new
+    suffices_after x suffices = λ m l marked h. (
+      (suffices (m - read) (omega (arith, l, size)) (λ end. omega (arith, marked end, size)) (omega (arith, first.leaves m l marked h, room))).0,
+      leaves_after m l marked h,
+    )
+
+-- ---- one step: the whole call, or the first of some
+module _ {A : Type 0} (encode : ℕ → List A) (need : ℕ) (replacing : Encoding → ℕ → ℕ → ℕ) (old : DecoderState) (src : List ℕ) (dst dst' : List A)
+    (last : Bool) (result : Option CoderResult) (read written : ℕ) (new : DecoderState)
+    (step : IsReplacingStep encode need replacing old src dst dst' last result read written new) where
+  pub call_of_step : (x : CoderResult) → result ≡ Some x → IsReplacingCall encode need old src dst dst' last x read written 0 new
+  call_of_step x is = record {
+    replaces = subst (λ o. Replaces encode old src dst dst' last read written (replaced_by o) new) is step.replaces;
+    ends = rw is at step.ends;
+  }
+
+  pub suffices_of_step : (x : CoderResult) → result ≡ Some x → SufficesReplacing replacing old src (length dst) last x read written new
+  suffices_of_step x is = λ m l marked h. (λ e. step.suffices (is ∙ ap (λ y. Some y) e) m l marked h, step.leaves m l marked h)
+
+  pub first_step : result ≡ None → AreReplacingSteps encode replacing old src dst dst' last read written 1 new
+  first_step is = record {
+    replaces = subst (λ o. Replaces encode old src dst dst' last read written (replaced_by o) new) is step.replaces;
+    leaves = step.leaves;
+    few = (step.goes_on is).1;
+  }
+
+-- ---- some steps, and then one
 module _ {A : Type 0} (encode : ℕ → List A) (need : ℕ) (replacing : Encoding → ℕ → ℕ → ℕ) (old mid new : DecoderState) (src : List ℕ) (dst dst' sub : List A)
     (last : Bool) (read written r w replaced : ℕ) (first : AreReplacingSteps encode replacing old src dst dst' last read written replaced mid)
     (result : Option CoderResult)
     (second : IsReplacingStep encode need replacing mid (take (length src - read) (drop read src)) (take (length dst' - written) (drop written dst')) sub last
     result r w new) where
-  unread : take (length src - read) (drop read src) ≡ drop read src
-  unread = take_rest src read
-
-  size : length (take (length src - read) (drop read src)) ≡ length src - read
-  size = ap length unread ∙ length-drop read src
-
-  room : length (take (length dst' - written) (drop written dst')) ≡ length dst - written
-  room = room_after encode need dst dst' written first.replaces.out first.replaces.writes
-
-  rest : drop r (take (length src - read) (drop read src)) ≡ drop (read + r) src
-  rest = ap (drop r) unread ∙ drop-drop r read src
-
-  keeps_both : Keeps old src (read + r) new
-  keeps_both =
-      let before = first.replaces.keeps in
-      let after = second.replaces.keeps in (
-        before.0 ++ after.0,
-        ap (λ xs. old.pending ++ xs) (take-add read r src) ∙ sym (append_assoc old.pending (take read src) (take r (drop read src)))
-            ∙ ap (λ xs. xs ++ take r (drop read src)) before.1 ∙ append_assoc before.0 mid.pending (take r (drop read src))
-            ∙ ap (λ xs. before.0 ++ (mid.pending ++ take r xs)) (sym unread) ∙ ap (λ xs. before.0 ++ xs) after.1
-            ∙ sym (append_assoc before.0 after.0 new.pending),
-      )
-
-  pub replaces_both : Replaces encode old src dst (put_mid written (length dst' - written) dst' sub) last (read + r) (written + w)
-      (replaced + replaced_by result) new
-  replaces_both = record {
-    out = first.replaces.out ++ second.replaces.out;
-    writes = WritesPrefix_after dst dst' written first.replaces.out sub w second.replaces.out first.replaces.writes second.replaces.writes;
-    within = omega (arith, first.replaces.within, second.replaces.within, size);
-    yields = λ more none. YieldText-append encode _ _ _ _ _ _ _ (first.replaces.yields more none)
-        (subst (λ bs. YieldText encode (left mid (drop read src ++ more)) (left new (bs ++ more)) second.replaces.out (replaced_by result)) rest
-        (subst
-        (λ bs. YieldText encode (left mid (bs ++ more)) (left new (drop r (take (length src - read) (drop read src)) ++ more)) second.replaces.out
-        (replaced_by result)) unread
-        (second.replaces.yields more none)));
-    keeps = keeps_both;
-    at_most_three = second.replaces.at_most_three;
-  }
-
-  pub leaves_both : LeavesRoom replacing old src (length dst) last (read + r) (written + w) new
-  leaves_both = λ m l marked h.
-      let here = first.leaves m l marked h in
-      let there = second.leaves (m - read) (omega (arith, l, size)) (λ end. omega (arith, marked end, size)) (omega (arith, here, room)) in
-      let same : queried replacing new (m - read - r) ≡ queried replacing new (m - (read + r)) = ap (queried replacing new) (omega arith) in
-      omega (arith, there, same, room, first.replaces.writes.fits)
-
-  ends_both : (x : CoderResult)
-      → EndsReplacing encode need (take (length src - read) (drop read src)) (length (take (length dst' - written) (drop written dst')))
-      last x r w new → EndsReplacing encode need src (length dst) last x (read + r) (written + w) new
-  ends_both InputEmpty (all, end) = (omega (arith, all, size, first.replaces.within), end)
-  ends_both OutputFull is_full =
-      let free : length (take (length dst' - written) (drop written dst')) - w ≡ length dst - (written + w) = omega (arith, room) in
-      record {
-        little = omega (arith, is_full.little, room, first.replaces.writes.fits);
-        more = omega (arith, is_full.more, size);
-        next_too_long = λ none begins. is_full.next_too_long none
-            (subst (FittingBeginsIn new.encoding encode _) (sym free)
-            (subst (λ bs. FittingBeginsIn new.encoding encode bs (length dst - (written + w))) (sym rest) begins));
-      }
-
   pub call_both : (x : CoderResult) → result ≡ Some x
       → IsReplacingCall encode need old src dst (put_mid written (length dst' - written) dst' sub) last x (read + r) (written + w) replaced new
-  call_both x is = record {
-    replaces = subst (λ n. Replaces encode old src dst (put_mid written (length dst' - written) dst' sub) last (read + r) (written + w) n new)
-        (ap (λ o. replaced + replaced_by o) is ∙ omega arith) replaces_both;
-    ends = ends_both x (rw is at second.ends);
-  }
+  call_both x is =
+      let call = call_of_step encode need replacing mid _ _ sub last result r w new second x is in
+      subst (λ n. IsReplacingCall encode need old src dst (put_mid written (length dst' - written) dst' sub) last x (read + r)
+      (written + w) n new) (omega arith)
+      (call_after encode need replacing old mid new src dst dst' sub last read written r w replaced 0 first call.replaces second.leaves x call.ends)
 
   pub suffices_both : (x : CoderResult) → result ≡ Some x → SufficesReplacing replacing old src (length dst) last x (read + r) (written + w) new
-  suffices_both x is = λ m l marked h. (
-    λ e. second.suffices (is ∙ ap (λ y. Some y) e) (m - read) (omega (arith, l, size)) (λ end. omega (arith, marked end, size))
-        (omega (arith, first.leaves m l marked h, room)),
-    leaves_both m l marked h,
-  )
+  suffices_both x is =
+      suffices_after encode need replacing old mid new src dst dst' sub last read written r w replaced
+      (replaced_by result) first second.replaces second.leaves x
+      (suffices_of_step encode need replacing mid _ _ sub last result r w new second x is)
 
   -- fewer bytes are left
   pub shrinks : result ≡ None → length new.pending + (length (take (length src - read) (drop read src)) - r) < length mid.pending + (length src - read)
@@ -196,7 +234,8 @@ module _ {A : Type 0} (encode : ℕ → List A) (need : ℕ) (replacing : Encodi
         ap replaced_by is,
         left_within mid (take (length src - read) (drop read src) ++ []),
         length-append (take (length src - read) (drop read src)) [],
-        size,
+        ap length (take_rest src read),
+        length-drop read src,
         left_off new (drop r (take (length src - read) (drop read src)) ++ []) (second.goes_on is).0,
         length-append (drop r (take (length src - read) (drop read src))) [],
         length-drop r (take (length src - read) (drop read src)),
@@ -206,8 +245,11 @@ module _ {A : Type 0} (encode : ℕ → List A) (need : ℕ) (replacing : Encodi
       (read + r) (written + w) (replaced + 1) new
   steps_both is = record {
     replaces = subst (λ n. Replaces encode old src dst (put_mid written (length dst' - written) dst' sub) last (read + r) (written + w) n new)
-        (ap (λ o. replaced + replaced_by o) is) replaces_both;
-    leaves = leaves_both;
+        (ap (λ o. replaced + replaced_by o) is)
+        (replaces_after encode need replacing old mid new src dst dst' sub last read written r w replaced
+        (replaced_by result) first second.replaces second.leaves);
+    leaves = leaves_after encode need replacing old mid new src dst dst' sub last read written r w replaced
+        (replaced_by result) first second.replaces second.leaves;
     few = omega (arith, first.few, (second.goes_on is).1);
   }
 

@@ -1,5 +1,5 @@
 //! Calls that write U+FFFD for each malformed sequence.
-ghost use Rattle.std.specs.Prelude.{length};
+ghost use Rattle.std.specs.Prelude.{◌≤◌, length};
 ghost use Rattle.encoding_streams.specs.Marks.{IsUndecided};
 ghost use Rattle.encoding_streams.specs.Decoders.{IsReplacingCall, SufficesReplacing};
 ghost use Rattle.encoding_streams.specs.DecoderSteps.{IsReplacingStep, shown};
@@ -36,10 +36,9 @@ fn replace_one<U: Output>(
     }
 }
 
-/// Decodes, with U+FFFD for each malformed sequence. Returns why the call ended, the number of bytes read, the number of
-/// code units written, and the number of malformed sequences.
-#[inline(always)]
-pub(super) fn replace<U: Output>(
+/// Decodes as `replace` does, one call that reports after another.
+#[inline(never)]
+fn replace_all<U: Output>(
     state: &mut State,
     src: &[u8],
     dst: &mut [U],
@@ -51,6 +50,7 @@ pub(super) fn replace<U: Output>(
         result.0 result.1 result.2 result.3 (shown state.new) }
     ensures suffices { SufficesReplacing U.replacing (shown state.old) src.now (length dst.old) last
         result.0 result.1 result.2 (shown state.new) }
+    ensures few { result.3 ≤ result.2 }
 {
     let _length = state.pending.len();
     let mut read = 0;
@@ -68,6 +68,37 @@ pub(super) fn replace<U: Output>(
         match result {
             Some(result) => return (result, read, written, replaced),
             None => replaced += 1,
+        }
+    }
+}
+
+/// Decodes, with U+FFFD for each malformed sequence. Returns why the call ended, the number of bytes read, the number of
+/// code units written, and the number of malformed sequences. Most calls meet none, and end without the loop.
+#[inline(always)]
+pub(super) fn replace<U: Output>(
+    state: &mut State,
+    src: &[u8],
+    dst: &mut [U],
+    last: bool,
+) -> (CoderResult, usize, usize, usize)
+    requires undecided { IsUndecided state.old.bom state.old.encoding state.old.pending }
+    ensures undecided { IsUndecided state.new.bom state.new.encoding state.new.pending }
+    ensures call { IsReplacingCall U.encode U.need (shown state.old) src.now dst.old dst.new last
+        result.0 result.1 result.2 result.3 (shown state.new) }
+    ensures suffices { SufficesReplacing U.replacing (shown state.old) src.now (length dst.old) last
+        result.0 result.1 result.2 (shown state.new) }
+{
+    let (result, read, written) = replace_one::<U>(state, src, dst, last);
+    match result {
+        Some(result) => (result, read, written, 0),
+        None => {
+            let (result, more, extra, replaced) = replace_all::<U>(
+                state,
+                &src[read..],
+                &mut dst[written..],
+                last,
+            );
+            (result, read + more, written + extra, 1 + replaced)
         }
     }
 }

@@ -1,39 +1,24 @@
-use Rattle.std.proofs.Common.{length, ap, arith}
-use Rattle.std.proofs.lemmas.List.{take_rest, length-drop}
-use Rattle.encoding_streams.proofs.ReplacingCallLemmas.{no_steps, steps_both, call_both, suffices_both, shrinks}
+use Rattle.encoding_streams.proofs.ReplacingCallLemmas.{call_of_step, suffices_of_step, first_step, call_after, suffices_after}
 use Rattle.encoding_streams.proofs.decoder.replacing.replace.Goals as goal
 
 pub returns-in-Some-clause-call : goal.returns-in-Some-clause-call
 returns-in-Some-clause-call g c =
-    let step = c.replace_one-result in
-    call_both g.U.CodeUnit.encode g.U.CodeUnit.need g.U.Output.replacing _ _ _ _ _ _ _ _ _ _ _ _ _ c.loop-result.invariant.steps _
-    step.ensures.step _ c.in-Some.is
+    call_of_step g.U.CodeUnit.encode g.U.CodeUnit.need g.U.Output.replacing _ _ _ _ _ _ _ _ _ c.replace_one-result.ensures.step _ c.in-Some.is
 
 pub returns-in-Some-clause-suffices : goal.returns-in-Some-clause-suffices
 returns-in-Some-clause-suffices g c =
-    let step = c.replace_one-result in
-    suffices_both g.U.CodeUnit.encode g.U.CodeUnit.need g.U.Output.replacing _ _ _ _ _ _ _ _ _ _ _ _ _ c.loop-result.invariant.steps _ step.ensures.step _
-    c.in-Some.is
+    suffices_of_step g.U.CodeUnit.encode g.U.CodeUnit.need g.U.Output.replacing _ _ _ _ _ _ _ _ _ c.replace_one-result.ensures.step _ c.in-Some.is
 
-pub loop-result-smaller : goal.loop-result-smaller
-loop-result-smaller g c =
-    let step = c.replace_one-result in
-    let l = c.loop-result in
-    let fewer =
-    shrinks g.U.CodeUnit.encode g.U.CodeUnit.need g.U.Output.replacing _ _ _ _ _ _ _ _ _ _ _ _ _ l.invariant.steps _ step.ensures.step c.in-None.is in
-    omega (arith, fewer, ap length (take_rest c.args.src.now l.read), length-drop l.read c.args.src.now)
+pub returns-in-None-clause-call : goal.returns-in-None-clause-call
+returns-in-None-clause-call g c =
+    let rest = c.replace_all-result.ensures in
+    call_after g.U.CodeUnit.encode g.U.CodeUnit.need g.U.Output.replacing _ _ _ _ _ _ _ _ _ _ _ _ _ _
+    (first_step g.U.CodeUnit.encode g.U.CodeUnit.need g.U.Output.replacing _ _ _ _ _ _ _ _ _ c.replace_one-result.ensures.step c.in-None.is)
+    rest.call.replaces (λ m l marked h. (rest.suffices m l marked h).1) _ rest.call.ends
 
-pub loop-result-preserved : goal.loop-result-preserved
-loop-result-preserved g c =
-    let step = c.replace_one-result in
-    record {
-      steps = steps_both g.U.CodeUnit.encode g.U.CodeUnit.need g.U.Output.replacing _ _ _ _ _ _ _ _ _ _ _ _ _ c.loop-result.invariant.steps _ step.ensures.step
-          c.in-None.is;
-      undecided = step.ensures.undecided;
-    }
-
-pub loop-result-init : goal.loop-result-init
-loop-result-init g c = record {
-  steps = no_steps g.U.CodeUnit.encode g.U.Output.replacing _ _ _ _ (omega (arith, c.len-length.ensures.length, c.len-length.ensures.within));
-  undecided = c.requires.undecided;
-}
+pub returns-in-None-clause-suffices : goal.returns-in-None-clause-suffices
+returns-in-None-clause-suffices g c =
+    let rest = c.replace_all-result.ensures in
+    suffices_after g.U.CodeUnit.encode g.U.CodeUnit.need g.U.Output.replacing _ _ _ _ _ _ _ _ _ _ _ _ _ _
+    (first_step g.U.CodeUnit.encode g.U.CodeUnit.need g.U.Output.replacing _ _ _ _ _ _ _ _ _ c.replace_one-result.ensures.step c.in-None.is)
+    rest.call.replaces (λ m l marked h. (rest.suffices m l marked h).1) _ rest.suffices

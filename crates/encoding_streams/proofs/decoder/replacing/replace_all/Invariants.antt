@@ -1,7 +1,7 @@
 use Rattle.std.proofs.Common.{◌+◌, ◌-◌, length}
 use Rattle.encoding_streams.specs.Marks.{IsUndecided}
 use Rattle.encoding_streams.specs.DecoderSteps.{AreReplacingSteps, shown}
-use Rattle.encoding_streams.proofs.decoder.replacing.replace.Given as goal
+use Rattle.encoding_streams.proofs.decoder.replacing.replace_all.Given as goal
 
 abbrev pub invariant-loop-result : goal.invariant-loop-result
 invariant-loop-result g l =
