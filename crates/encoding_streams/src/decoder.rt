@@ -1,6 +1,6 @@
 //! The streaming decoder of UTF-8, UTF-16LE and UTF-16BE, for streams that may start with a byte order mark: Encoding
 //! Standard, "decode". Its calls have the form of those of the crate `encoding_rs`. The elements of `dst` past those
-//! reported as written are unchanged.
+//! reported as written are unchanged, except those that the calls into a text clear.
 
 mod inner;
 mod queries;
