@@ -83,13 +83,17 @@ fn convert_prefix_and_blocks(src: &[u16], dst: &mut [u8]) -> (usize, usize, bool
     (read + paired, written + extra, paired > 0)
 }
 
-/// Returns how many characters to convert one at a time before trying blocks again: all if fewer than eight units are
-/// left, and otherwise one, which stopped the blocks.
+/// Returns how many characters to convert one at a time before trying blocks: all if fewer than eight units are left, and
+/// otherwise `others`, the number of those that stopped the blocks.
 #[inline(always)]
-fn scalar_budget(left: usize) -> usize
-    ensures { 0 < result }
+fn scalar_budget(left: usize, others: usize) -> usize
+    ensures { 0 < others → 0 < result }
 {
-    if left < HALF_STRIDE { HALF_STRIDE } else { 1 }
+    if left < HALF_STRIDE {
+        HALF_STRIDE
+    } else {
+        others
+    }
 }
 
 /// Converts the first characters of `src` from UTF-16 to UTF-8, while at least four bytes of `dst` are free. Returns
@@ -108,7 +112,7 @@ pub fn convert_utf16_to_utf8_partial_inner(src: &[u16], dst: &mut [u8]) -> (usiz
     }
     let mut read = 0;
     let mut written = 0;
-    let mut singles = 0;
+    let mut singles = scalar_budget(src.len(), 0);
     let end = dst.len().saturating_sub(LONGEST - 1);
     while read < src.len() && written < end {
         if singles == 0 {
@@ -119,7 +123,7 @@ pub fn convert_utf16_to_utf8_partial_inner(src: &[u16], dst: &mut [u8]) -> (usiz
             read += units;
             written += bytes;
             if !goes_on {
-                singles = scalar_budget(src.len() - read);
+                singles = scalar_budget(src.len() - read, 1);
             }
         } else {
             let scalar = scalar_at(src, read);
