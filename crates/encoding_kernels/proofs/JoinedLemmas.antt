@@ -1,14 +1,14 @@
 -- Lanes that the comparisons of several vectors are joined into.
-use Rattle.std.proofs.Common.{◌≡◌, ℕ, ◌+◌, ◌-◌, ◌<◌, ◌≤◌, ◌↔◌, cond, leb, inl, inr, List, length, get_or, map, replicate, bit_or, ap, ◌∙◌, sym, arith, subst}
+use Rattle.std.proofs.Common.{◌≡◌, ℕ, ◌+◌, ◌-◌, ◌<◌, ◌≤◌, ◌↔◌, cond, leb, inl, inr, List, length, get_or, map, replicate, bit_or, ap, ◌∙◌, sym, arith, subst, w8, w16}
 use Rattle.std.proofs.lemmas.Bool.{cases_lt}
 use Rattle.std.proofs.lemmas.Bool.Decides.{nat_tests}
-use Rattle.std.specs.Simd.Lanes.{chunk, zip2, top, sel_l}
+use Rattle.std.specs.Simd.Lanes.{chunk, zip2, top, sel_l, number_l, digits_l}
 use mir.Syntax.{Width}
 use mir.Val.{hbits}
 use Rattle.encoding_kernels.specs.Following.{IsZeroTo}
 use Rattle.encoding_kernels.specs.Scans.{HasLanes, AllBelow, JoinsOthers}
 use Rattle.encoding_kernels.proofs.VectorLemmas.{HasLanes_load, HasLanes-zip2, HasLanes-splat, HasLanes-itself, compared}
-use Rattle.encoding_kernels.proofs.MaskLemmas.{tests_of, chosen, or_zeros}
+use Rattle.encoding_kernels.proofs.MaskLemmas.{tests_of, chosen, or_zeros, unit_bytes_zero}
 
 abbrev mark : ℕ → ℕ → ℕ → ℕ
 mark set bound x = cond (leb bound x) set 0
@@ -19,18 +19,18 @@ below set bound x some e = grind (arith, nat_tests)
 none : (set bound x : ℕ) → x < bound → mark set bound x ≡ 0
 none set bound x l = grind (arith, nat_tests)
 
-pub small : (set bound x : ℕ) → set < 65536 → mark set bound x < 65536
+small : (set bound x : ℕ) → set < 65536 → mark set bound x < 65536
 small set bound x few = grind (arith, nat_tests)
 
 -- the comparison of one vector with the bound
-module _ (w : Width) (n set bound at : ℕ) (xs : List ℕ) (some : 0 < set) (room : at + n ≤ length xs) where
-  abbrev pub others : List ℕ
-  others = sel_l (map (top (hbits w)) (zip2 (compared w leb) (replicate n bound) (chunk at n xs))) (replicate n set) (replicate n 0)
+abbrev pub others : Width → ℕ → ℕ → ℕ → ℕ → List ℕ → List ℕ
+others w n set bound at xs = sel_l (map (top (hbits w)) (zip2 (compared w leb) (replicate n bound) (chunk at n xs))) (replicate n set) (replicate n 0)
 
-  pub other_lanes : HasLanes n others (λ k. mark set bound (get_or xs (at + k) 0))
+module _ (w : Width) (n set bound at : ℕ) (xs : List ℕ) (some : 0 < set) (room : at + n ≤ length xs) where
+  other_lanes : HasLanes n (others w n set bound at xs) (λ k. mark set bound (get_or xs (at + k) 0))
   other_lanes = chosen set 0 (tests_of w leb (HasLanes-splat n bound) (HasLanes_load at n xs room))
 
-  pub zero_others : IsZeroTo others n ↔ AllBelow bound xs at n
+  zero_others : IsZeroTo (others w n set bound at xs) n ↔ AllBelow bound xs at n
   zero_others = (
     λ z k from to. subst (λ j. get_or xs j 0 < bound) {x = at + (k - at)} {y = k} (omega arith)
         (below set bound _ some (sym (other_lanes.each (k - at) (omega arith)) ∙ z.each (k - at) (omega arith))),
@@ -57,3 +57,36 @@ others_join {bound} {at} {n} {m} {xs} {a} {b} p q =
         },
       );
     }
+
+pub byte_others : (bound at : ℕ) (bs : List ℕ) → at + 32 ≤ length bs → JoinsOthers bound bs at 32 (others w8 32 0xFF bound at bs)
+byte_others bound at bs room = let some : 0 < 0xFF = omega arith in record {
+  long = (other_lanes w8 32 0xFF bound at bs some room).long;
+  zero = zero_others w8 32 0xFF bound at bs some room;
+}
+
+-- the bytes of the comparisons of 32 code units
+pub unit_others : (bound at : ℕ) (us : List ℕ) → at + 32 ≤ length us
+    → IsZeroTo (digits_l 256 64 (number_l 65536 (others w16 32 0xFFFF bound at us))) 64 ↔ AllBelow bound us at 32
+unit_others bound at us room =
+    let some : 0 < 0xFFFF = omega arith in
+    let is = zero_others w16 32 0xFFFF bound at us some room in
+    let bytes = unit_bytes_zero _ _ (other_lanes w16 32 0xFFFF bound at us some room) (λ k l. small 0xFFFF bound _ (omega arith)) in
+    (λ t. is.0 (bytes.0 t), λ h. bytes.1 (is.1 h))
+
+-- two halves, which may overlap
+pub both_below : (bound at n : ℕ) (us : List ℕ) {a b : List ℕ} → length a ≡ 64 → length b ≡ 64 → 32 ≤ n → n ≤ 64 → IsZeroTo a 64 ↔ AllBelow bound us at 32
+    → IsZeroTo b 64 ↔ AllBelow bound us (at + (n - 32)) 32 → IsZeroTo (zip2 bit_or a b) 64 ↔ AllBelow bound us at n
+both_below bound at n us {a} {b} long long_b least few p q = (
+  λ z k from to. let both = or_zeros 64 a b long long_b z in elim (cases_lt k (at + 32)) [
+    | inl l ↦ p.0 both.0 k from l
+    | inr l ↦ q.0 both.1 k (omega arith) (omega arith)
+  ],
+  λ h.
+      let lanes = HasLanes-zip2 bit_or (HasLanes-itself 64 a long) (HasLanes-itself 64 b long_b) in
+      record {
+        each = λ i l.
+            let first = (p.1 (λ k from to. h k from (omega arith))).each i l in
+            let second = (q.1 (λ k from to. h k (omega arith) (omega arith))).each i l in
+            lanes.each i l ∙ ap (λ x. bit_or x (get_or b i 0)) first ∙ ap (bit_or 0) second;
+      },
+)

@@ -8,7 +8,7 @@ use Rattle.std.proofs.lemmas.Simd.{trailing_mask_l, Each1-get_or, get_or-zip2, E
 use lib.Count.{count_trailing_zeros}
 use mir.Syntax.{Width}
 use mir.Val.{bits, hbits}
-use Rattle.encoding_kernels.specs.Scans.{HasLanes, Marks}
+use Rattle.encoding_kernels.specs.Scans.{HasLanes, Marks, PassBetween}
 use Rattle.encoding_kernels.proofs.VectorLemmas.{HasLanes_load, HasLanes-zip2, HasLanes-splat, HasLanes-select, HasLanes_same, compared, top_compared, mask_of, mask_is, IsFirstSet, first_set, first_none, no_bit_from, HasLanes-itself, narrow, sixteen_lanes}
 use Rattle.std.proofs.lemmas.Nat.{le_or_l, le_or_r, and_le_l}
 use Rattle.std.proofs.lemmas.List.{get_or_past}
@@ -113,6 +113,10 @@ module _ {w : Width} {n : ℕ} {a : List ℕ} {t : ℕ → Bool} where
               stops = λ l h. false≢true (sym ((is _ l).1 h) ∙ first.found l);
             };
       }
+
+-- a mask that is compared with zero
+pub none_marked : {P : ℕ → Type 0} {at n mask : ℕ} → Marks P at n mask → IsTrue (eqb mask 0) ↔ PassBetween P at (at + n)
+none_marked {mask = mask} m = (λ t. m.none.0 (eqb-true mask 0 t), λ h. eq-eqb mask 0 (m.none.1 h))
 
 -- `Marks` for the units below a bound
 pub marks_below : (w : Width) (n at bound : ℕ) (xs : List ℕ) → at + n ≤ length xs → n ≤ 64

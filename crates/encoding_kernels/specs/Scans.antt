@@ -13,6 +13,10 @@ pub record HasLanes (n : ℕ) (lanes : List ℕ) (f : ℕ → ℕ) : Type 0 wher
 abbrev pub PassBetween : (ℕ → Type 0) → ℕ → ℕ → Type 0
 PassBetween P from to = (k : ℕ) → from ≤ k → k < to → P k
 
+-- a test of w indices by vectors of n lanes, one or several
+abbrev pub IsWidth : ℕ → ℕ → Type 0
+IsWidth n w = (0 < n) × (n ≤ 64) × (n ≤ w)
+
 -- the first `run` of the n indices from `at` on pass, and the next, if there is one, doesn't
 pub record IsPassRun (P : ℕ → Type 0) (at n run : ℕ) : Type 0 where
   pub within : run ≤ n

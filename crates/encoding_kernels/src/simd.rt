@@ -2,9 +2,9 @@
 
 pub(crate) mod compress;
 pub mod copy;
-pub mod joined;
 pub(crate) mod lookup;
 pub mod scan;
 pub mod short;
 pub(crate) mod sum;
+pub mod units;
 pub mod width;

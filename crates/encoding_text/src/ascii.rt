@@ -9,10 +9,8 @@ ghost use Rattle.encoding_definitions.specs.Prefixes.{IsLongestPrefix, WritesPre
 use encoding_kernels::simd::copy::{
     copy_first, copy_part, pack_first, pack_part, unpack_first, unpack_part,
 };
-use encoding_kernels::simd::joined::are_256_below;
-use encoding_kernels::simd::scan::{
-    are_bytes_below, are_units_below, run_len_below, units_run_len_below,
-};
+use encoding_kernels::simd::scan::{are_256_below, are_bytes_below, run_len_below};
+use encoding_kernels::simd::units::{are_units_below, units_run_len_below};
 use encoding_kernels::simd::width::{
     ASCII_END, BASIC_LATIN_END, BLOCK, FOUR, FOUR_BLOCKS, SIXTEEN, STRIDE, UNIT_BLOCK,
 };

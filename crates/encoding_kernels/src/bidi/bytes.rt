@@ -7,7 +7,7 @@ ghost use Rattle.encoding_kernels.specs.RightToLeft.{RtlAt, BeginNoRtl, NoRtlIn,
 ghost use Rattle.encoding_kernels.specs.Scans.{HasLanes};
 
 use crate::simd::lookup::twice;
-use crate::simd::scan::{LanePredicate, is_zero, reach, skip};
+use crate::simd::scan::{AllPass, Test, is_zero, reach, skip};
 use crate::simd::width::{BLOCK, STRIDE};
 use crate::tuning::{LOW_BYTES, MOST_BYTE_BLOCKS};
 use std::simd::Simd;
@@ -258,19 +258,21 @@ struct LowBytes<'a> {
     bytes: &'a [u8],
 }
 
-impl<'a, const N: usize> LanePredicate<N> for LowBytes<'a> {
+impl<'a> Test for LowBytes<'a> {
     ghost count = { λ s. length s.bytes.now - 2 };
 
     ghost passes = { λ s k. may_start_rtl (slice_index s.bytes.now k) (rtl_mark_lead (slice_index s.bytes.now (k + 2))) ≡ false };
+}
 
+impl<'a, const N: usize> AllPass<N, N> for LowBytes<'a> {
     #[inline(always)]
-    fn failing(&self, at: usize) -> u64 {
+    fn pass(&self, at: usize) -> bool {
         let bytes = self.bytes;
         let first = Simd::<u8, N>::from_slice(&bytes[at..]);
         let third = Simd::<u8, N>::from_slice(&bytes[at + 2..]);
         let high = first.simd_ge(Simd::splat(FIRST_LEAD));
         let others = high ^ first.simd_eq(Simd::splat(PUNCTUATION_LEAD));
-        (others | first.simd_eq(mark_leads(third))).to_bitmask()
+        (others | first.simd_eq(mark_leads(third))).to_bitmask() == 0
     }
 }
 
@@ -280,18 +282,20 @@ struct ClearBytes<'a> {
     bytes: &'a [u8],
 }
 
-impl<'a, const N: usize> LanePredicate<N> for ClearBytes<'a> {
+impl<'a> Test for ClearBytes<'a> {
     ghost count = { λ s. length s.bytes.now - 2 };
 
     ghost passes = { λ s k. HasNoRtlAt s.bytes.now k };
+}
 
+impl<'a, const N: usize> AllPass<N, N> for ClearBytes<'a> {
     #[inline(always)]
-    fn failing(&self, at: usize) -> u64 {
+    fn pass(&self, at: usize) -> bool {
         let bytes = self.bytes;
         let first = Simd::<u8, N>::from_slice(&bytes[at..]);
         let second = Simd::<u8, N>::from_slice(&bytes[at + 1..]);
         let third = Simd::<u8, N>::from_slice(&bytes[at + 2..]);
-        second.simd_lt(second_ends(first, third)).to_bitmask()
+        second.simd_lt(second_ends(first, third)).to_bitmask() == 0
     }
 }
 

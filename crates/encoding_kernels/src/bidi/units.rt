@@ -8,10 +8,10 @@ ghost use Rattle.encoding_definitions.specs.Bidi.{IsRightToLeftUnit};
 ghost use Rattle.encoding_kernels.specs.RightToLeft.{NoneRightToLeft, in_range, may_be_right_to_left};
 ghost use Rattle.encoding_kernels.specs.Scans.{HasLanes};
 
-use crate::simd::joined::skip_joined;
 use crate::simd::lookup::twice;
-use crate::simd::scan::{LanePredicate, UnitsBelow, all, is_zero, reach};
-use crate::simd::width::{HALF_UNIT_BLOCK, UNIT_STRIDE};
+use crate::simd::scan::{AllPass, Test, is_zero, reach, skip};
+use crate::simd::units::UnitsBelow;
+use crate::simd::width::{HALF_UNIT_BLOCK, STRIDE, UNIT_STRIDE};
 use crate::tuning::{LOW_UNITS, MOST_UNIT_BLOCKS};
 use std::simd::Simd;
 use std::simd::prelude::*;
@@ -171,18 +171,21 @@ struct NoForms<'a> {
     units: &'a [u16],
 }
 
-impl<'a, const N: usize> LanePredicate<N> for NoForms<'a> {
+impl<'a> Test for NoForms<'a> {
     ghost count = { λ s. length s.units.now };
 
     ghost passes = { λ s k. in_range 0xFB1D 0x03E2 (slice_index s.units.now k) ≡ false };
+}
 
+impl<'a, const N: usize> AllPass<N, N> for NoForms<'a> {
     #[inline(always)]
-    fn failing(&self, at: usize) -> u64 {
+    fn pass(&self, at: usize) -> bool {
         let units = self.units;
         let block = Simd::<u16, N>::from_slice(&units[at..]);
         (block - Simd::splat(0xFB1D))
             .simd_lt(Simd::splat(0x03E2))
             .to_bitmask()
+            == 0
     }
 }
 
@@ -200,7 +203,7 @@ fn are_32_clear(units: &[u16], at: usize) -> bool
     }
     // the tables hold some more units for forms, and a text with these has many
     is_zero(groups & u8x32::splat(OTHER_GROUPS))
-        && all::<HALF_UNIT_BLOCK, HALF_UNIT_BLOCK, _>(&NoForms { units }, at)
+        && AllPass::<HALF_UNIT_BLOCK, HALF_UNIT_BLOCK>::pass(&NoForms { units }, at)
 }
 
 /// Indices of code units that aren't right-to-left, by ranges and marks that hold all right-to-left units and some
@@ -210,13 +213,15 @@ struct ClearUnits<'a> {
     units: &'a [u16],
 }
 
-impl<'a, const N: usize> LanePredicate<N> for ClearUnits<'a> {
+impl<'a> Test for ClearUnits<'a> {
     ghost count = { λ s. length s.units.now };
 
     ghost passes = { λ s k. may_be_right_to_left (slice_index s.units.now k) ≡ false };
+}
 
+impl<'a, const N: usize> AllPass<N, N> for ClearUnits<'a> {
     #[inline(always)]
-    fn failing(&self, at: usize) -> u64 {
+    fn pass(&self, at: usize) -> bool {
         let units = self.units;
         let block = Simd::<u16, N>::from_slice(&units[at..]);
         // zero in each lane that is in the range: a comparison for each would need one more instruction
@@ -228,7 +233,7 @@ impl<'a, const N: usize> LanePredicate<N> for ClearUnits<'a> {
             .simd_min(embeddings)
             .simd_min(halves.simd_min(forms));
         let marks = block.simd_eq(Simd::splat(0x200F)) | block.simd_eq(Simd::splat(0x2067));
-        (ranges.simd_eq(Simd::splat(0)) | marks).to_bitmask()
+        (ranges.simd_eq(Simd::splat(0)) | marks).to_bitmask() == 0
     }
 }
 
@@ -269,7 +274,7 @@ pub fn skip_clear_units(units: &[u16], from: usize) -> usize
         if at < end {
             break;
         }
-        let next = skip_joined::<HALF_UNIT_BLOCK, _>(&low, at, units.len());
+        let next = skip::<STRIDE, HALF_UNIT_BLOCK, _>(&low, at, units.len());
         blocks = if next - at < LOW_UNITS {
             (blocks + 1).min(MOST_UNIT_BLOCKS)
         } else {

@@ -5,7 +5,7 @@ ghost use Rattle.std.specs.Prelude.{◌≡◌, false, ◌+◌, ◌-◌, ◌<◌,
 ghost use Rattle.encoding_definitions.specs.Latin1.{IsUtf8Latin1};
 ghost use Rattle.encoding_kernels.specs.Neighbors.{FitLatin1, latin1_fault};
 
-use crate::simd::scan::{LanePredicate, reach, skip};
+use crate::simd::scan::{AllPass, Test, reach, skip};
 use crate::simd::width::{BLOCK, STRIDE};
 use std::simd::Simd;
 use std::simd::prelude::*;
@@ -23,13 +23,15 @@ struct BytePairs<'a> {
     bytes: &'a [u8],
 }
 
-impl<'a, const N: usize> LanePredicate<N> for BytePairs<'a> {
+impl<'a> Test for BytePairs<'a> {
     ghost count = { λ s. length s.bytes.now - 1 };
 
     ghost passes = { λ s k. latin1_fault (slice_index s.bytes.now (k + 1)) (slice_index s.bytes.now k) ≡ false };
+}
 
+impl<'a, const N: usize> AllPass<N, N> for BytePairs<'a> {
     #[inline(always)]
-    fn failing(&self, at: usize) -> u64 {
+    fn pass(&self, at: usize) -> bool {
         let bytes = self.bytes;
         let block = Simd::<u8, N>::from_slice(&bytes[at + 1..]);
         let before = Simd::<u8, N>::from_slice(&bytes[at..]);
@@ -37,7 +39,7 @@ impl<'a, const N: usize> LanePredicate<N> for BytePairs<'a> {
         let overlong = (block & Simd::splat(0xFE)).simd_eq(Simd::splat(0xC0));
         let faults = (follows ^ before.simd_ge(Simd::splat(LEAST_LEAD)))
             | (overlong | block.simd_ge(Simd::splat(BEYOND_LATIN1)));
-        faults.to_bitmask()
+        faults.to_bitmask() == 0
     }
 }
 

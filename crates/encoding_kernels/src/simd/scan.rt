@@ -1,55 +1,36 @@
-//! Scans for indices that pass a test, many at a time by vectors, and the longest prefix of units below a bound, such as
+//! Scans for indices that pass a test, many at a time by vectors, and the longest prefix of bytes below a bound, such as
 //! the ASCII prefix.
 
-ghost use Rattle.std.specs.Prelude.{◌≡◌, ℕ, ◌+◌, ◌*◌, ◌<◌, ◌≤◌, ◌↔◌, ◌⊎◌, IsTrue, length, slice_index};
+ghost use Rattle.std.specs.Prelude.{◌≡◌, ℕ, ◌+◌, ◌<◌, ◌≤◌, ◌↔◌, IsTrue, length, slice_index};
 ghost use lib.Count.{count_trailing_zeros};
 ghost use Rattle.encoding_kernels.specs.Following.{IsZeroTo};
-ghost use Rattle.encoding_kernels.specs.Scans.{PassBetween, IsPassRun, Marks, AllBelow, IsRunBelow, BelowUpTo};
+ghost use Rattle.encoding_kernels.specs.Scans.{PassBetween, IsPassRun, IsWidth, Marks, JoinsOthers, AllBelow, IsRunBelow, BelowUpTo};
 
-use crate::simd::joined::{
-    JoinedPredicate, are_32_units_below, are_64_below, are_256_below, reach_joined, skip_joined,
-};
-use crate::simd::width::{BLOCK, FOUR_BLOCKS, HALF_STRIDE, HALF_UNIT_BLOCK, STRIDE, UNIT_STRIDE};
+use crate::simd::width::{BLOCK, FOUR_BLOCKS, HALF_BLOCK, HALF_STRIDE, STRIDE, TWO_BLOCKS};
 use std::simd::Simd;
 use std::simd::prelude::*;
 
-/// A test of each index below a count, N at a time.
-pub trait LanePredicate<const N: usize> {
+/// A test of each index below a count.
+pub trait Test {
     ghost count: { Self → ℕ };
 
     ghost passes: { Self → ℕ → Type 0 };
+}
 
+/// A test that finds the first of N indices that fails.
+pub trait LanePredicate<const N: usize>: Test {
     /// Returns the mask of those of the N indices from `at` on that fail.
     fn failing(&self, at: usize) -> u64
-        requires { (at + N ≤ count self.now) × (0 < N) × (N ≤ 64) }
-        ensures { Marks (passes self.now) at N result };
+        requires { (at + N ≤ Self.count self.now) × (0 < N) × (N ≤ 64) }
+        ensures { Marks (Self.passes self.now) at N result };
 }
 
-/// Returns whether each of the 4 * N indices from `at` on passes, by one test.
-#[inline(always)]
-fn all_of_four<const N: usize, T: LanePredicate<N>>(test: &T, at: usize) -> bool
-    requires { (at + 4 * N ≤ T.count test.now) × (at + 4 * N < 18446744073709551616)
-        × (0 < N) × (N ≤ 64) }
-    ensures { IsTrue result ↔ PassBetween (T.passes test.now) at (at + 4 * N) }
-{
-    let first_two = (test.failing(at) == 0) & (test.failing(at + N) == 0);
-    let last_two = (test.failing(at + 2 * N) == 0) & (test.failing(at + 3 * N) == 0);
-    first_two & last_two
-}
-
-/// Returns whether each of the W indices from `at` on passes, by one test of one or four vectors.
-#[inline(always)]
-pub fn all<const N: usize, const W: usize, T: LanePredicate<N>>(test: &T, at: usize) -> bool
-    requires within { (at + W ≤ T.count test.now) × (at + W < 18446744073709551616)
-        × (0 < N) × (N ≤ 64) }
-    requires vectors { (W ≡ N) ⊎ (W ≡ 4 * N) }
-    ensures { IsTrue result ↔ PassBetween (T.passes test.now) at (at + W) }
-{
-    if W == N {
-        test.failing(at) == 0
-    } else {
-        all_of_four(test, at)
-    }
+/// A test of W indices at once, by one vector of N or by several.
+pub trait AllPass<const N: usize, const W: usize>: Test {
+    /// Returns whether each of the W indices from `at` on passes.
+    fn pass(&self, at: usize) -> bool
+        requires { (at + W ≤ Self.count self.now) × IsWidth N W }
+        ensures { IsTrue result ↔ PassBetween (Self.passes self.now) at (at + W) };
 }
 
 /// Returns how many of N indices precede the first that fails, by the mask of those that do.
@@ -77,13 +58,12 @@ pub(crate) fn run<const N: usize, T: LanePredicate<N>>(test: &T, at: usize) -> u
 /// Skips W indices at a time from `from` on, no farther than `end`, while they pass, and returns the index that it
 /// reaches.
 #[inline(always)]
-pub(crate) fn skip<const N: usize, const W: usize, T: LanePredicate<N>>(
+pub(crate) fn skip<const N: usize, const W: usize, T: AllPass<N, W>>(
     test: &T,
     from: usize,
     end: usize,
 ) -> usize
-    requires within { (from ≤ end) × (end ≤ T.count test.now) × (0 < N) × (N ≤ 64) }
-    requires vectors { (W ≡ N) ⊎ (W ≡ 4 * N) }
+    requires { (from ≤ end) × (end ≤ T.count test.now) × IsWidth N W }
     ensures within { (from ≤ result) × (result ≤ end) }
     ensures pass { PassBetween (T.passes test.now) from result }
     ensures stops { result + W ≤ end → PassBetween (T.passes test.now) result (result + W) → ⊥ }
@@ -93,7 +73,7 @@ pub(crate) fn skip<const N: usize, const W: usize, T: LanePredicate<N>>(
     }
     // a loop that compares with a bound takes one instruction less than one that subtracts
     let mut at = from;
-    while at <= end - W && all::<N, W, T>(test, at) {
+    while at <= end - W && test.pass(at) {
         at += W;
     }
     at
@@ -101,13 +81,12 @@ pub(crate) fn skip<const N: usize, const W: usize, T: LanePredicate<N>>(
 
 /// Skips as far as `skip`, or to `end` if the last W indices before it pass too. These may overlap the ones before.
 #[inline(always)]
-pub(crate) fn reach<const N: usize, const W: usize, T: LanePredicate<N>>(
+pub(crate) fn reach<const N: usize, const W: usize, T: AllPass<N, W>>(
     test: &T,
     from: usize,
     end: usize,
 ) -> usize
-    requires within { (from ≤ end) × (end ≤ T.count test.now) × (0 < N) × (N ≤ 64) }
-    requires vectors { (W ≡ N) ⊎ (W ≡ 4 * N) }
+    requires { (from ≤ end) × (end ≤ T.count test.now) × IsWidth N W }
     ensures within { (from ≤ result) × (result ≤ end) }
     ensures pass { PassBetween (T.passes test.now) from result }
     ensures whole { W ≤ end → PassBetween (T.passes test.now) 0 end → result ≡ end }
@@ -116,7 +95,7 @@ pub(crate) fn reach<const N: usize, const W: usize, T: LanePredicate<N>>(
     if at == end {
         return end;
     }
-    if end - at < W && W <= end && all::<N, W, T>(test, end - W) {
+    if end - at < W && W <= end && test.pass(end - W) {
         return end;
     }
     at
@@ -125,8 +104,13 @@ pub(crate) fn reach<const N: usize, const W: usize, T: LanePredicate<N>>(
 /// Returns the first index before `end` that fails, or `end`, given that all before `from` pass. Scans N indices at a
 /// time, and the last N may overlap the ones before.
 #[inline(always)]
-pub(crate) fn find<const N: usize, T: LanePredicate<N>>(test: &T, from: usize, end: usize) -> usize
-    requires end { (N ≤ end) × (end ≤ T.count test.now) × (0 < N) × (N ≤ 64) }
+pub(crate) fn find<const N: usize, T: LanePredicate<N> + AllPass<N, N>>(
+    test: &T,
+    from: usize,
+    end: usize,
+) -> usize
+    requires end { (N ≤ end) × (end ≤ T.count test.now) }
+    requires lanes { (0 < N) × (N ≤ 64) }
     requires from { (from ≤ end) × PassBetween (T.passes test.now) 0 from }
     ensures within { result ≤ end }
     ensures pass { PassBetween (T.passes test.now) 0 result }
@@ -147,11 +131,13 @@ pub struct BytesBelow<'a> {
     pub bound: u8,
 }
 
-impl<'a, const N: usize> LanePredicate<N> for BytesBelow<'a> {
+impl<'a> Test for BytesBelow<'a> {
     ghost count = { λ s. length s.bytes.now };
 
     ghost passes = { λ s k. slice_index s.bytes.now k < s.bound };
+}
 
+impl<'a, const N: usize> LanePredicate<N> for BytesBelow<'a> {
     #[inline(always)]
     fn failing(&self, at: usize) -> u64 {
         let bytes = self.bytes;
@@ -160,57 +146,59 @@ impl<'a, const N: usize> LanePredicate<N> for BytesBelow<'a> {
     }
 }
 
-impl<'a> JoinedPredicate<BLOCK> for BytesBelow<'a> {
-    ghost count = { λ s. length s.bytes.now };
-
-    ghost passes = { λ s k. slice_index s.bytes.now k < s.bound };
-
+impl<'a, const N: usize> AllPass<N, N> for BytesBelow<'a> {
     #[inline(always)]
-    fn all_pass(&self, at: usize) -> bool {
-        are_64_below(self.bytes, at, self.bound)
+    fn pass(&self, at: usize) -> bool {
+        LanePredicate::<N>::failing(self, at) == 0
     }
 }
 
-impl<'a> JoinedPredicate<FOUR_BLOCKS> for BytesBelow<'a> {
-    ghost count = { λ s. length s.bytes.now };
-
-    ghost passes = { λ s k. slice_index s.bytes.now k < s.bound };
-
+impl<'a> AllPass<HALF_BLOCK, BLOCK> for BytesBelow<'a> {
     #[inline(always)]
-    fn all_pass(&self, at: usize) -> bool {
-        are_256_below(self.bytes, at, self.bound)
+    fn pass(&self, at: usize) -> bool {
+        let bytes = self.bytes;
+        let others = others_of_32(bytes, at, self.bound) | others_of_32(bytes, at + 32, self.bound);
+        is_zero_by_words(others)
     }
 }
 
-/// UTF-16 code units that are below a bound.
-#[derive(Drop)]
-pub struct UnitsBelow<'a> {
-    pub units: &'a [u16],
-    pub bound: u16,
-}
-
-impl<'a, const N: usize> LanePredicate<N> for UnitsBelow<'a> {
-    ghost count = { λ s. length s.units.now };
-
-    ghost passes = { λ s k. slice_index s.units.now k < s.bound };
-
+impl<'a> AllPass<HALF_BLOCK, TWO_BLOCKS> for BytesBelow<'a> {
     #[inline(always)]
-    fn failing(&self, at: usize) -> u64 {
-        let units = self.units;
-        let others = Simd::<u16, N>::from_slice(&units[at..]).simd_ge(Simd::splat(self.bound));
-        others.to_bitmask()
+    fn pass(&self, at: usize) -> bool {
+        let bytes = self.bytes;
+        let others = others_of_32(bytes, at, self.bound)
+            | others_of_32(bytes, at + 32, self.bound)
+            | others_of_32(bytes, at + 64, self.bound)
+            | others_of_32(bytes, at + 96, self.bound);
+        is_zero_by_words(others)
     }
 }
 
-impl<'a> JoinedPredicate<HALF_UNIT_BLOCK> for UnitsBelow<'a> {
-    ghost count = { λ s. length s.units.now };
-
-    ghost passes = { λ s k. slice_index s.units.now k < s.bound };
-
+impl<'a> AllPass<HALF_BLOCK, FOUR_BLOCKS> for BytesBelow<'a> {
     #[inline(always)]
-    fn all_pass(&self, at: usize) -> bool {
-        are_32_units_below(self.units, at, self.bound)
+    fn pass(&self, at: usize) -> bool {
+        let bytes = self.bytes;
+        // one after another: if pairs were joined first, AVX2 would take one more load
+        let others = others_of_32(bytes, at, self.bound)
+            | others_of_32(bytes, at + 32, self.bound)
+            | others_of_32(bytes, at + 64, self.bound)
+            | others_of_32(bytes, at + 96, self.bound)
+            | others_of_32(bytes, at + 128, self.bound)
+            | others_of_32(bytes, at + 160, self.bound)
+            | others_of_32(bytes, at + 192, self.bound)
+            | others_of_32(bytes, at + 224, self.bound);
+        is_zero_by_words(others)
     }
+}
+
+/// Returns zero in the lanes of those of the 32 bytes from `at` on that are below the bound.
+#[inline(always)]
+fn others_of_32(bytes: &[u8], at: usize, bound: u8) -> u8x32
+    requires { at + 32 ≤ length bytes.now }
+    ensures { JoinsOthers bound bytes.now at 32 result }
+{
+    let others = u8x32::from_slice(&bytes[at..]).simd_ge(u8x32::splat(bound));
+    others.select(u8x32::splat(0xFF), u8x32::splat(0))
 }
 
 /// Returns whether each of the N bytes from `at` on is below the bound.
@@ -219,16 +207,16 @@ pub fn are_bytes_below<const N: usize>(bytes: &[u8], at: usize, bound: u8) -> bo
     requires { (at + N ≤ length bytes.now) × (0 < N) × (N ≤ 64) }
     ensures { IsTrue result ↔ AllBelow bound bytes.now at N }
 {
-    all::<N, N, _>(&BytesBelow { bytes, bound }, at)
+    AllPass::<N, N>::pass(&BytesBelow { bytes, bound }, at)
 }
 
-/// Returns whether each of the N UTF-16 code units from `at` on is below the bound.
+/// Returns whether each of the 256 bytes from `at` on is below the bound.
 #[inline(always)]
-pub fn are_units_below<const N: usize>(units: &[u16], at: usize, bound: u16) -> bool
-    requires { (at + N ≤ length units.now) × (0 < N) × (N ≤ 64) }
-    ensures { IsTrue result ↔ AllBelow bound units.now at N }
+pub fn are_256_below(bytes: &[u8], at: usize, bound: u8) -> bool
+    requires { at + 256 ≤ length bytes.now }
+    ensures { IsTrue result ↔ AllBelow bound bytes.now at 256 }
 {
-    all::<N, N, _>(&UnitsBelow { units, bound }, at)
+    AllPass::<HALF_BLOCK, FOUR_BLOCKS>::pass(&BytesBelow { bytes, bound }, at)
 }
 
 /// Returns how many of the N bytes from `at` on precede the first that isn't below the bound.
@@ -238,15 +226,6 @@ pub fn run_len_below<const N: usize>(bytes: &[u8], at: usize, bound: u8) -> usiz
     ensures { IsRunBelow bound bytes.now at N result }
 {
     run::<N, _>(&BytesBelow { bytes, bound }, at)
-}
-
-/// Returns how many of the N UTF-16 code units from `at` on precede the first that isn't below the bound.
-#[inline(always)]
-pub fn units_run_len_below<const N: usize>(units: &[u16], at: usize, bound: u16) -> usize
-    requires { (at + N ≤ length units.now) × (0 < N) × (N ≤ 64) }
-    ensures { IsRunBelow bound units.now at N result }
-{
-    run::<N, _>(&UnitsBelow { units, bound }, at)
 }
 
 /// Returns the length of the longest prefix of bytes below `bound`. Checks the first vector separately, since most
@@ -279,7 +258,7 @@ pub fn prefix_after_stride(bytes: &[u8], bound: u8) -> usize
     if bytes.len() < BLOCK {
         return find::<STRIDE, _>(&test, STRIDE, bytes.len());
     }
-    let by_blocks = skip_joined::<FOUR_BLOCKS, _>(&test, 0, bytes.len());
+    let by_blocks = skip::<HALF_BLOCK, FOUR_BLOCKS, _>(&test, 0, bytes.len());
     find::<BLOCK, _>(&test, by_blocks, bytes.len())
 }
 
@@ -300,37 +279,6 @@ fn short_prefix_len_below(bytes: &[u8], bound: u8) -> usize
     at
 }
 
-/// Returns the length of the longest prefix of UTF-16 code units below the bound.
-#[inline(always)]
-pub fn units_prefix_len_below(units: &[u16], bound: u16) -> usize
-    ensures within { result ≤ length units.now }
-    ensures below { BelowUpTo bound units.now result }
-    ensures stops { result < length units.now → bound ≤ slice_index units.now result }
-{
-    let test = UnitsBelow { units, bound };
-    match units.len() {
-        ..UNIT_STRIDE => skip::<1, 1, _>(&test, 0, units.len()),
-        ..HALF_UNIT_BLOCK => find::<UNIT_STRIDE, _>(&test, 0, units.len()),
-        _ => find::<HALF_UNIT_BLOCK, _>(&test, 0, units.len()),
-    }
-}
-
-/// Skips UTF-16 code units from the start that are below the bound, by vectors, and returns how many: all if all are. A unit
-/// that isn't may follow others that are, which are not skipped.
-#[inline(always)]
-pub fn skip_units_below(units: &[u16], bound: u16) -> usize
-    ensures within { result ≤ length units.now }
-    ensures below { BelowUpTo bound units.now result }
-    ensures whole { BelowUpTo bound units.now (length units.now) → result ≡ length units.now }
-{
-    let test = UnitsBelow { units, bound };
-    match units.len() {
-        ..UNIT_STRIDE => skip::<1, 1, _>(&test, 0, units.len()),
-        ..HALF_UNIT_BLOCK => reach::<UNIT_STRIDE, UNIT_STRIDE, _>(&test, 0, units.len()),
-        _ => reach_joined::<HALF_UNIT_BLOCK, _>(&test, 0, units.len()),
-    }
-}
-
 /// Returns whether each lane is zero.
 #[tactic(auto, using(std::proofs::lemmas::Grind::common_steps, crate::proofs::MaskLemmas::zeros_from_mask))]
 #[inline(always)]
@@ -338,6 +286,14 @@ pub(crate) fn is_zero(lanes: u8x32) -> bool
     ensures { IsTrue result → IsZeroTo lanes 32 }
 {
     lanes.simd_ne(u8x32::splat(0)).to_bitmask() == 0
+}
+
+/// Returns whether each lane is zero, by words of 64 bits: ARM has no instruction for the mask of a vector.
+#[inline(always)]
+pub(crate) fn is_zero_by_words(lanes: u8x32) -> bool
+    ensures { IsTrue result ↔ IsZeroTo lanes 32 }
+{
+    u64x4::from_le_bytes(lanes).reduce_or() == 0
 }
 
 /// Returns how many lanes precede the first that isn't zero.

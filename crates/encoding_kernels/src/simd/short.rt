@@ -7,109 +7,53 @@ ghost use Rattle.encoding_definitions.specs.Prefixes.{WritesPrefix};
 ghost use Rattle.encoding_kernels.specs.Scans.{PassBetween};
 
 use crate::simd::copy::{copy, pack_part, unpack};
-use crate::simd::scan::{BytesBelow, UnitsBelow, all, are_bytes_below, are_units_below};
-use crate::simd::width::{
-    ASCII_END, BASIC_LATIN_END, BLOCK, HALF_BLOCK, HALF_STRIDE, LANES, QUARTER_STRIDE, STRIDE,
-};
+use crate::simd::scan::{AllPass, BytesBelow, Test};
+use crate::simd::units::UnitsBelow;
+use crate::simd::width::{BLOCK, HALF_BLOCK, HALF_STRIDE, LANES, QUARTER_STRIDE, STRIDE};
 use std::simd::prelude::*;
 
-/// A short text, whose units are tested.
-pub trait ShortText {
-    ghost count: { Self → ℕ };
-
-    ghost passes: { Self → ℕ → Type 0 };
-
-    /// Returns the number of units.
-    fn count(&self) -> usize
-        ensures { result ≡ count self.now };
-}
-
-/// N units of a short text at a time.
-pub trait Lanes<const N: usize>: ShortText {
-    /// Returns whether each of the N units from `at` on passes.
-    fn pass(&self, at: usize) -> bool
-        requires { (at + N ≤ Self.count self.now) × (0 < N) × (N ≤ 64) }
-        ensures { IsTrue result ↔ PassBetween (Self.passes self.now) at (at + N) };
-}
-
-/// Returns whether each of N to 2 * N units passes.
+/// Returns whether each of N to 2 * N indices passes.
 #[inline(always)]
-fn pass_by_two<const N: usize, T: Lanes<N>>(text: &T) -> bool
-    requires { (0 < N) × (N ≤ 64) × (N ≤ T.count text.now) × (T.count text.now ≤ 2 * N) }
-    ensures { IsTrue result ↔ PassBetween (T.passes text.now) 0 (T.count text.now) }
+fn pass_by_two<const N: usize, T: AllPass<N, N>>(test: &T, count: usize) -> bool
+    requires count { (count ≤ T.count test.now) × (N ≤ count) × (count ≤ 2 * N) }
+    requires width { (0 < N) × (N ≤ 64) }
+    ensures { IsTrue result ↔ PassBetween (T.passes test.now) 0 count }
 {
-    let last = text.count() - N;
-    text.pass(0) & text.pass(last)
+    test.pass(0) & test.pass(count - N)
 }
 
-/// Returns whether each of one, two or three units passes. May test a unit twice: a branch for each length costs more.
+/// Returns whether each of one, two or three indices passes. May test one twice: a branch for each count costs more.
 #[inline(always)]
-fn pass_few<T: Lanes<1>>(text: &T) -> bool
-    requires { (0 < T.count text.now) × (T.count text.now ≤ 3) }
-    ensures { IsTrue result ↔ PassBetween (T.passes text.now) 0 (T.count text.now) }
+fn pass_few<T: AllPass<1, 1>>(test: &T, count: usize) -> bool
+    requires { (count ≤ T.count test.now) × (0 < count) × (count ≤ 3) }
+    ensures { IsTrue result ↔ PassBetween (T.passes test.now) 0 count }
 {
-    let (middle, last) = (text.count() / 2, text.count() - 1);
-    text.pass(0) & text.pass(middle) & text.pass(last)
+    test.pass(0) & test.pass(count / 2) & test.pass(count - 1)
 }
 
-/// Returns whether all units of a short text pass.
+/// Returns whether each of the first `count` indices passes.
 #[inline(always)]
-pub fn pass_short<const LONGEST: usize, T>(text: &T) -> bool
+pub fn pass_short<const LONGEST: usize, T>(test: &T, count: usize) -> bool
 where
-    T: Lanes<1> + Lanes<4> + Lanes<8> + Lanes<16> + Lanes<32> + Lanes<64>,
-    requires { (T.count text.now ≤ LONGEST) × (LONGEST ≤ 128) }
-    ensures { IsTrue result ↔ PassBetween (T.passes text.now) 0 (T.count text.now) }
+    T: AllPass<1, 1> + AllPass<4, 4> + AllPass<8, 8>,
+    T: AllPass<16, 16> + AllPass<32, 32> + AllPass<64, 64>,
+    requires { (count ≤ T.count test.now) × (count ≤ LONGEST) × (LONGEST ≤ 128) }
+    ensures { IsTrue result ↔ PassBetween (T.passes test.now) 0 count }
 {
-    if LONGEST > BLOCK && text.count() > BLOCK {
-        return pass_by_two::<BLOCK, T>(text);
+    if LONGEST > BLOCK && count > BLOCK {
+        return pass_by_two::<BLOCK, T>(test, count);
     }
-    if text.count() > HALF_BLOCK {
-        return pass_by_two::<HALF_BLOCK, T>(text);
+    if count > HALF_BLOCK {
+        return pass_by_two::<HALF_BLOCK, T>(test, count);
     }
-    if text.count() >= STRIDE {
-        return pass_by_two::<STRIDE, T>(text);
+    if count >= STRIDE {
+        return pass_by_two::<STRIDE, T>(test, count);
     }
-    match text.count() {
-        HALF_STRIDE.. => pass_by_two::<HALF_STRIDE, T>(text),
-        QUARTER_STRIDE.. => pass_by_two::<QUARTER_STRIDE, T>(text),
-        1.. => pass_few(text),
+    match count {
+        HALF_STRIDE.. => pass_by_two::<HALF_STRIDE, T>(test, count),
+        QUARTER_STRIDE.. => pass_by_two::<QUARTER_STRIDE, T>(test, count),
+        1.. => pass_few(test, count),
         0 => true,
-    }
-}
-
-impl<'a> ShortText for BytesBelow<'a> {
-    ghost count = { λ s. length s.bytes.now };
-
-    ghost passes = { λ s k. slice_index s.bytes.now k < s.bound };
-
-    #[inline(always)]
-    fn count(&self) -> usize {
-        self.bytes.len()
-    }
-}
-
-impl<'a, const N: usize> Lanes<N> for BytesBelow<'a> {
-    #[inline(always)]
-    fn pass(&self, at: usize) -> bool {
-        all::<N, N, _>(self, at)
-    }
-}
-
-impl<'a> ShortText for UnitsBelow<'a> {
-    ghost count = { λ s. length s.units.now };
-
-    ghost passes = { λ s k. slice_index s.units.now k < s.bound };
-
-    #[inline(always)]
-    fn count(&self) -> usize {
-        self.units.len()
-    }
-}
-
-impl<'a, const N: usize> Lanes<N> for UnitsBelow<'a> {
-    #[inline(always)]
-    fn pass(&self, at: usize) -> bool {
-        all::<N, N, _>(self, at)
     }
 }
 
@@ -141,200 +85,143 @@ pub(crate) fn with_zeros(src: &[u8]) -> u8x16
     lanes.simd_lt(count).select(bytes, u8x16::splat(0))
 }
 
-/// A short text whose units are copied if all pass.
-pub trait ShortCopy<D>: ShortText {
+/// Units that are copied if they pass a test.
+pub trait ShortCopy<D>: Test {
     ghost units: { Self → List D };
 
-    ghost long: { (text : Self) → length (units text) ≡ Self.count text };
+    ghost long: { (test : Self) → length (units test) ≡ Self.count test };
+
+    /// Whether a unit that passes can be copied.
+    ghost is_narrow: { Self → Type 0 };
 }
 
-/// N units of a short text that are copied at a time.
+/// N units that are copied at a time.
 pub trait CopyLanes<const N: usize, D>: ShortCopy<D> {
     /// Copies the N units from `at` on, which pass, to the same index.
     fn write(&self, at: usize, dst: &mut [D])
         requires within { (at + N ≤ Self.count self.now) × (at + N ≤ length dst.old) }
         requires pass { PassBetween (Self.passes self.now) at (at + N) }
+        requires narrow { Self.is_narrow self.now }
         ensures { dst.new ≡ take at dst.old
             ++ (take N (drop at (Self.units self.now)) ++ drop (at + N) dst.old) };
 }
 
 /// Copies N to 2 * N units if they pass. Returns whether they do.
 #[inline(always)]
-fn write_by_two<const N: usize, D, T: Lanes<N> + CopyLanes<N, D>>(text: &T, dst: &mut [D]) -> bool
-    requires units { (0 < N) × (N ≤ 64) × (N ≤ T.count text.now) × (T.count text.now ≤ 2 * N) }
-    requires dst_length { T.count text.now ≤ length dst.old }
-    ensures pass { IsTrue result ↔ PassBetween (T.passes text.now) 0 (T.count text.now) }
-    ensures written { IsTrue result
-        → WritesPrefix dst.old dst.new (T.count text.now) (T.units text.now) }
+fn write_by_two<const N: usize, D, T: AllPass<N, N> + CopyLanes<N, D>>(
+    test: &T,
+    count: usize,
+    dst: &mut [D],
+) -> bool
+    requires count { (count ≡ T.count test.now) × (N ≤ count) × (count ≤ 2 * N) }
+    requires width { (0 < N) × (N ≤ 64) }
+    requires narrow { T.is_narrow test.now }
+    requires dst_length { count ≤ length dst.old }
+    ensures pass { IsTrue result ↔ PassBetween (T.passes test.now) 0 count }
+    ensures written { IsTrue result → WritesPrefix dst.old dst.new count (T.units test.now) }
     ensures unchanged { IsFalse result → dst.new ≡ dst.old }
 {
-    if !pass_by_two::<N, T>(text) {
+    if !pass_by_two::<N, T>(test, count) {
         return false;
     }
-    let last = text.count() - N;
-    text.write(0, dst);
-    text.write(last, dst);
+    test.write(0, dst);
+    test.write(count - N, dst);
     true
 }
 
 /// Copies one, two or three units if they pass. Returns whether they do. May copy a unit twice.
 #[inline(always)]
-fn write_few<D, T: Lanes<1> + CopyLanes<1, D>>(text: &T, dst: &mut [D]) -> bool
-    requires few { (0 < T.count text.now) × (T.count text.now ≤ 3) }
-    requires dst_length { T.count text.now ≤ length dst.old }
-    ensures pass { IsTrue result ↔ PassBetween (T.passes text.now) 0 (T.count text.now) }
-    ensures written { IsTrue result
-        → WritesPrefix dst.old dst.new (T.count text.now) (T.units text.now) }
+fn write_few<D, T: AllPass<1, 1> + CopyLanes<1, D>>(test: &T, count: usize, dst: &mut [D]) -> bool
+    requires few { (count ≡ T.count test.now) × (0 < count) × (count ≤ 3) }
+    requires narrow { T.is_narrow test.now }
+    requires dst_length { count ≤ length dst.old }
+    ensures pass { IsTrue result ↔ PassBetween (T.passes test.now) 0 count }
+    ensures written { IsTrue result → WritesPrefix dst.old dst.new count (T.units test.now) }
     ensures unchanged { IsFalse result → dst.new ≡ dst.old }
 {
-    if !pass_few(text) {
+    if !pass_few(test, count) {
         return false;
     }
-    let (middle, last) = (text.count() / 2, text.count() - 1);
-    text.write(0, dst);
-    text.write(middle, dst);
-    text.write(last, dst);
+    test.write(0, dst);
+    test.write(count / 2, dst);
+    test.write(count - 1, dst);
     true
 }
 
-/// Copies a short text if all its units pass. Returns whether they do. The rest of `dst` is unchanged.
+/// Copies a short text, of `count` units, if all of them pass. Returns whether they do. The rest of `dst` is unchanged.
 #[inline(always)]
-pub fn write_short<const LONGEST: usize, D, T>(text: &T, dst: &mut [D]) -> bool
+pub fn write_short<const LONGEST: usize, D, T>(test: &T, count: usize, dst: &mut [D]) -> bool
 where
-    T: Lanes<1> + Lanes<4> + Lanes<8> + Lanes<16> + Lanes<32> + Lanes<64>,
+    T: AllPass<1, 1> + AllPass<4, 4> + AllPass<8, 8>,
+    T: AllPass<16, 16> + AllPass<32, 32> + AllPass<64, 64>,
     T: CopyLanes<1, D> + CopyLanes<4, D> + CopyLanes<8, D>,
     T: CopyLanes<16, D> + CopyLanes<32, D> + CopyLanes<64, D>,
-    requires short { (T.count text.now ≤ LONGEST) × (LONGEST ≤ 128) }
-    requires dst_length { T.count text.now ≤ length dst.old }
-    ensures pass { IsTrue result ↔ PassBetween (T.passes text.now) 0 (T.count text.now) }
-    ensures written { IsTrue result
-        → WritesPrefix dst.old dst.new (T.count text.now) (T.units text.now) }
+    requires short { (count ≡ T.count test.now) × (count ≤ LONGEST) × (LONGEST ≤ 128) }
+    requires narrow { T.is_narrow test.now }
+    requires dst_length { count ≤ length dst.old }
+    ensures pass { IsTrue result ↔ PassBetween (T.passes test.now) 0 count }
+    ensures written { IsTrue result → WritesPrefix dst.old dst.new count (T.units test.now) }
     ensures unchanged { IsFalse result → dst.new ≡ dst.old }
 {
-    if LONGEST > BLOCK && text.count() > BLOCK {
-        return write_by_two::<BLOCK, D, T>(text, dst);
+    if LONGEST > BLOCK && count > BLOCK {
+        return write_by_two::<BLOCK, D, T>(test, count, dst);
     }
-    if text.count() > HALF_BLOCK {
-        return write_by_two::<HALF_BLOCK, D, T>(text, dst);
+    if count > HALF_BLOCK {
+        return write_by_two::<HALF_BLOCK, D, T>(test, count, dst);
     }
-    if text.count() >= STRIDE {
-        return write_by_two::<STRIDE, D, T>(text, dst);
+    if count >= STRIDE {
+        return write_by_two::<STRIDE, D, T>(test, count, dst);
     }
-    match text.count() {
-        HALF_STRIDE.. => write_by_two::<HALF_STRIDE, D, T>(text, dst),
-        QUARTER_STRIDE.. => write_by_two::<QUARTER_STRIDE, D, T>(text, dst),
-        1.. => write_few(text, dst),
+    match count {
+        HALF_STRIDE.. => write_by_two::<HALF_STRIDE, D, T>(test, count, dst),
+        QUARTER_STRIDE.. => write_by_two::<QUARTER_STRIDE, D, T>(test, count, dst),
+        1.. => write_few(test, count, dst),
         0 => true,
     }
 }
 
-/// Bytes that are copied if they are ASCII.
-#[derive(Drop)]
-pub struct BytesToBytes<'a> {
-    pub src: &'a [u8],
-}
-
-impl<'a> ShortText for BytesToBytes<'a> {
-    ghost count = { λ s. length s.src.now };
-
-    ghost passes = { λ s k. slice_index s.src.now k < 0x80 };
-
-    #[inline(always)]
-    fn count(&self) -> usize {
-        self.src.len()
-    }
-}
-
-impl<'a> ShortCopy<u8> for BytesToBytes<'a> {
-    ghost units = { λ s. s.src.now };
+impl<'a> ShortCopy<u8> for BytesBelow<'a> {
+    ghost units = { λ s. s.bytes.now };
 
     ghost long = { λ _. refl };
+
+    ghost is_narrow = { λ s. s.bound ≤ 0x80 };
 }
 
-impl<'a, const N: usize> Lanes<N> for BytesToBytes<'a> {
-    #[inline(always)]
-    fn pass(&self, at: usize) -> bool {
-        are_bytes_below::<N>(self.src, at, ASCII_END)
-    }
-}
-
-impl<'a, const N: usize> CopyLanes<N, u8> for BytesToBytes<'a> {
+impl<'a, const N: usize> CopyLanes<N, u8> for BytesBelow<'a> {
     #[inline(always)]
     fn write(&self, at: usize, dst: &mut [u8]) {
-        copy::<N>(self.src, dst, at);
+        copy::<N>(self.bytes, dst, at);
     }
 }
 
-/// Bytes that are copied, each as a UTF-16 code unit, if they are ASCII.
-#[derive(Drop)]
-pub struct BytesToUnits<'a> {
-    pub src: &'a [u8],
-}
-
-impl<'a> ShortText for BytesToUnits<'a> {
-    ghost count = { λ s. length s.src.now };
-
-    ghost passes = { λ s k. slice_index s.src.now k < 0x80 };
-
-    #[inline(always)]
-    fn count(&self) -> usize {
-        self.src.len()
-    }
-}
-
-impl<'a> ShortCopy<u16> for BytesToUnits<'a> {
-    ghost units = { λ s. s.src.now };
+impl<'a> ShortCopy<u16> for BytesBelow<'a> {
+    ghost units = { λ s. s.bytes.now };
 
     ghost long = { λ _. refl };
+
+    ghost is_narrow = { λ s. s.bound ≤ 0x80 };
 }
 
-impl<'a, const N: usize> Lanes<N> for BytesToUnits<'a> {
-    #[inline(always)]
-    fn pass(&self, at: usize) -> bool {
-        are_bytes_below::<N>(self.src, at, ASCII_END)
-    }
-}
-
-impl<'a, const N: usize> CopyLanes<N, u16> for BytesToUnits<'a> {
+impl<'a, const N: usize> CopyLanes<N, u16> for BytesBelow<'a> {
     #[inline(always)]
     fn write(&self, at: usize, dst: &mut [u16]) {
-        unpack::<N>(self.src, dst, at);
+        unpack::<N>(self.bytes, dst, at);
     }
 }
 
-/// UTF-16 code units that are copied, each as a byte, if they are ASCII.
-#[derive(Drop)]
-pub struct UnitsToBytes<'a> {
-    pub src: &'a [u16],
-}
-
-impl<'a> ShortText for UnitsToBytes<'a> {
-    ghost count = { λ s. length s.src.now };
-
-    ghost passes = { λ s k. slice_index s.src.now k < 0x80 };
-
-    #[inline(always)]
-    fn count(&self) -> usize {
-        self.src.len()
-    }
-}
-
-impl<'a> ShortCopy<u8> for UnitsToBytes<'a> {
-    ghost units = { λ s. s.src.now };
+impl<'a> ShortCopy<u8> for UnitsBelow<'a> {
+    ghost units = { λ s. s.units.now };
 
     ghost long = { λ _. refl };
+
+    ghost is_narrow = { λ s. s.bound ≤ 0x80 };
 }
 
-impl<'a, const N: usize> Lanes<N> for UnitsToBytes<'a> {
-    #[inline(always)]
-    fn pass(&self, at: usize) -> bool {
-        are_units_below::<N>(self.src, at, BASIC_LATIN_END)
-    }
-}
-
-impl<'a, const N: usize> CopyLanes<N, u8> for UnitsToBytes<'a> {
+impl<'a, const N: usize> CopyLanes<N, u8> for UnitsBelow<'a> {
     #[inline(always)]
     fn write(&self, at: usize, dst: &mut [u8]) {
-        pack_part::<N>(&self.src[at..at + N], dst, at);
+        let units = self.units;
+        pack_part::<N>(&units[at..at + N], dst, at);
     }
 }

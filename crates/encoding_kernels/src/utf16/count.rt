@@ -6,10 +6,10 @@ ghost use Rattle.encoding_kernels.specs.Lengths.{sum_over_suffixes, is_surrogate
 ghost use Rattle.encoding_kernels.specs.Counts.{begins_pair, bool_few};
 ghost use mir.Val.{bool_byte};
 
-use crate::simd::joined::skip_joined;
-use crate::simd::scan::UnitsBelow;
+use crate::simd::scan::skip;
 use crate::simd::sum::{Terms, sum_from};
-use crate::simd::width::{HALF_UNIT_BLOCK, UNIT_STRIDE};
+use crate::simd::units::UnitsBelow;
+use crate::simd::width::{HALF_UNIT_BLOCK, STRIDE, UNIT_STRIDE};
 use crate::tuning::UTF16_LENGTH_SPAN;
 use crate::utf16::length::unit_at;
 use std::simd::Simd;
@@ -91,7 +91,7 @@ impl<'a, const N: usize> Terms<N> for Pairs<'a> {
             units,
             bound: FIRST_SURROGATE,
         };
-        skip_joined::<HALF_UNIT_BLOCK, _>(&single, at, end)
+        skip::<STRIDE, HALF_UNIT_BLOCK, _>(&single, at, end)
     }
 
     ghost inside = { λ s. fewer (length s.units.now) 1 };

@@ -4,11 +4,11 @@ ghost use Rattle.encoding_definitions.specs.Utf16.{IsUtf8OfUnits};
 ghost use Rattle.encoding_kernels.specs.Scans.{BelowUpTo, HasLanes};
 ghost use Rattle.encoding_kernels.specs.Lengths.{extra_bytes, extra_bytes_by, extra_bytes_few, fewer};
 
-use crate::simd::joined::skip_joined;
-use crate::simd::scan::UnitsBelow;
+use crate::simd::scan::skip;
 use crate::simd::short::pass_short;
 use crate::simd::sum::{Terms, sum_from};
-use crate::simd::width::{BASIC_LATIN_END, HALF_UNIT_BLOCK, UNIT_BLOCK, UNIT_STRIDE};
+use crate::simd::units::UnitsBelow;
+use crate::simd::width::{BASIC_LATIN_END, HALF_UNIT_BLOCK, STRIDE, UNIT_BLOCK, UNIT_STRIDE};
 use crate::tuning::UTF16_LENGTH_SPAN;
 use std::simd::Simd;
 use std::simd::prelude::*;
@@ -97,7 +97,7 @@ impl<'a, const N: usize> Terms<N> for Beyond<'a> {
             units,
             bound: BASIC_LATIN_END,
         };
-        skip_joined::<HALF_UNIT_BLOCK, _>(&ascii, at, end)
+        skip::<STRIDE, HALF_UNIT_BLOCK, _>(&ascii, at, end)
     }
 
     ghost inside = { λ s. fewer (length s.units.now) 1 };
@@ -111,7 +111,9 @@ fn short_ascii_len(units: &[u16]) -> usize
     ensures { (result ≤ length units.now) × BelowUpTo 0x80 units.now result }
 {
     let bound = BASIC_LATIN_END;
-    if units.len() <= UNIT_BLOCK && pass_short::<UNIT_BLOCK, _>(&UnitsBelow { units, bound }) {
+    if units.len() <= UNIT_BLOCK
+        && pass_short::<UNIT_BLOCK, _>(&UnitsBelow { units, bound }, units.len())
+    {
         return units.len();
     }
     0

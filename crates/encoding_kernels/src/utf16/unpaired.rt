@@ -9,10 +9,10 @@ ghost use Rattle.encoding_kernels.specs.Neighbors.{pair_fault};
 ghost use mir.Val.{bool_byte};
 
 use crate::scalar::is_low_surrogate;
-use crate::simd::joined::skip_joined;
-use crate::simd::scan::UnitsBelow;
+use crate::simd::scan::skip;
 use crate::simd::sum::{Terms, sum_from};
-use crate::simd::width::{HALF_UNIT_BLOCK, UNIT_STRIDE};
+use crate::simd::units::UnitsBelow;
+use crate::simd::width::{HALF_UNIT_BLOCK, STRIDE, UNIT_STRIDE};
 use crate::tuning::UTF16_LENGTH_SPAN;
 use crate::utf16::length::unit_at;
 use std::simd::Simd;
@@ -94,7 +94,7 @@ impl<'a, const N: usize> Terms<N> for Faults<'a> {
             units,
             bound: FIRST_SURROGATE,
         };
-        let place = skip_joined::<HALF_UNIT_BLOCK, _>(&single, at, end);
+        let place = skip::<STRIDE, HALF_UNIT_BLOCK, _>(&single, at, end);
         if at < place { place - 1 } else { at }
     }
 

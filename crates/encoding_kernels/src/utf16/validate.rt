@@ -7,7 +7,7 @@ ghost use Rattle.encoding_kernels.specs.Neighbors.{PairUp, HaveNoSurrogate, pair
 ghost use Rattle.encoding_definitions.specs.Surrogates.{IsValidUtf16};
 
 use crate::scalar::{is_high_surrogate, is_low_surrogate};
-use crate::simd::scan::{LanePredicate, all, run};
+use crate::simd::scan::{LanePredicate, Test, run};
 use crate::simd::width::{HALF_STRIDE, STRIDE};
 use std::simd::Simd;
 use std::simd::prelude::*;
@@ -18,11 +18,13 @@ struct UnitPairs<'a> {
     units: &'a [u16],
 }
 
-impl<'a, const N: usize> LanePredicate<N> for UnitPairs<'a> {
+impl<'a> Test for UnitPairs<'a> {
     ghost count = { λ s. length s.units.now - 1 };
 
     ghost passes = { λ s k. pair_fault (slice_index s.units.now (k + 1)) (slice_index s.units.now k) ≡ false };
+}
 
+impl<'a, const N: usize> LanePredicate<N> for UnitPairs<'a> {
     #[inline(always)]
     fn failing(&self, at: usize) -> u64 {
         let units = self.units;
@@ -70,12 +72,12 @@ pub fn are_paired<const N: usize, const H: usize>(units: &[u16], at: usize) -> b
 {
     let test = UnitPairs { units };
     if at > 0 {
-        return all::<N, N, _>(&test, at - 1);
+        return LanePredicate::<N>::failing(&test, at - 1) == 0;
     }
     if is_low_surrogate(units[0]) {
         return false;
     }
-    all::<H, H, _>(&test, 0) & all::<H, H, _>(&test, H - 1)
+    (LanePredicate::<H>::failing(&test, 0) == 0) & (LanePredicate::<H>::failing(&test, H - 1) == 0)
 }
 
 /// Returns how many of the units of the stride at `at` precede the first that is a low surrogate without following a

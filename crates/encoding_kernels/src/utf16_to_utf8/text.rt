@@ -11,7 +11,7 @@ use super::mixed::SPILL;
 use super::pairs::{are_two_byte_or_paired, write_two_byte_or_paired};
 use super::tail::{convert_first_sixteen, convert_spilled};
 use crate::scalar::is_surrogate;
-use crate::simd::scan::are_units_below;
+use crate::simd::units::are_units_below;
 use crate::simd::width::{BASIC_LATIN_END, HALF_STRIDE, STRIDE};
 use crate::tuning::{ASCII_RUN, MIXED_RUN, TWO_BYTE_RUN};
 

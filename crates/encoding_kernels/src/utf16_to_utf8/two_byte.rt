@@ -6,7 +6,7 @@ ghost use Rattle.encoding_kernels.specs.KeptBytes.{EncodesTo};
 ghost use Rattle.encoding_kernels.specs.Utf8Output.{Spills};
 
 use crate::simd::compress::{places_by, select_in_halves, store_two};
-use crate::simd::joined::is_zero_by_words;
+use crate::simd::scan::is_zero_by_words;
 use std::simd::prelude::*;
 
 /// Returns whether each of the sixteen code units is ASCII.

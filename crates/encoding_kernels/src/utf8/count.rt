@@ -6,10 +6,9 @@ ghost use Rattle.encoding_kernels.specs.Lengths.{sum_over_suffixes, fewer};
 ghost use Rattle.encoding_kernels.specs.Counts.{is_four_bytes, begins_four_bytes, bool_few};
 ghost use mir.Val.{bool_byte};
 
-use crate::simd::joined::skip_joined;
-use crate::simd::scan::{BytesBelow, prefix_len_below};
+use crate::simd::scan::{BytesBelow, prefix_len_below, skip};
 use crate::simd::sum::{Terms, sum_from};
-use crate::simd::width::{BLOCK, HALF_STRIDE};
+use crate::simd::width::{BLOCK, HALF_BLOCK, HALF_STRIDE};
 use crate::tuning::UTF8_LENGTH_SPAN;
 use crate::utf8::length::{byte_at, joins, utf16_length_of_utf8};
 use std::simd::Simd;
@@ -109,7 +108,7 @@ impl<'a, const N: usize> Terms<N> for FourBytes<'a> {
             bytes,
             bound: FOUR_BYTE_LEAD,
         };
-        skip_joined::<BLOCK, _>(&shorter, at, end)
+        skip::<HALF_BLOCK, BLOCK, _>(&shorter, at, end)
     }
 
     ghost inside = { λ s. fewer (length s.bytes.now) 3 };

@@ -4,11 +4,10 @@ ghost use Rattle.encoding_definitions.specs.Parts.{Part, ArePartsOf, lossy_utf16
 ghost use Rattle.encoding_kernels.specs.Scans.{BelowUpTo, HasLanes};
 ghost use Rattle.encoding_kernels.specs.Lengths.{sum_over_suffixes, goes_second, continuations, continuations_by, continuations_few, fewer};
 
-use crate::simd::joined::skip_joined;
-use crate::simd::scan::{BytesBelow, prefix_len_below};
+use crate::simd::scan::{BytesBelow, prefix_len_below, skip};
 use crate::simd::short::pass_short;
 use crate::simd::sum::{Terms, sum_from};
-use crate::simd::width::{ASCII_END, BLOCK, HALF_STRIDE};
+use crate::simd::width::{ASCII_END, BLOCK, HALF_BLOCK, HALF_STRIDE};
 use crate::tuning::UTF8_LENGTH_SPAN;
 use std::simd::Simd;
 use std::simd::prelude::*;
@@ -129,7 +128,7 @@ impl<'a, const N: usize> Terms<N> for Joined<'a> {
             bytes,
             bound: ASCII_END,
         };
-        skip_joined::<BLOCK, _>(&ascii, at, end)
+        skip::<HALF_BLOCK, BLOCK, _>(&ascii, at, end)
     }
 
     ghost inside = { λ s. fewer (length s.bytes.now) 2 };
@@ -166,7 +165,7 @@ fn ascii_prefix_len(bytes: &[u8]) -> usize
     ensures { (result ≤ length bytes.now) × BelowUpTo 0x80 bytes.now result }
 {
     let bound = ASCII_END;
-    if bytes.len() <= BLOCK && pass_short::<BLOCK, _>(&BytesBelow { bytes, bound }) {
+    if bytes.len() <= BLOCK && pass_short::<BLOCK, _>(&BytesBelow { bytes, bound }, bytes.len()) {
         return bytes.len();
     }
     prefix_len_below(bytes, ASCII_END)

@@ -6,7 +6,7 @@ ghost use Rattle.encoding_kernels.specs.Scans.{BelowBetween, BelowUpTo};
 ghost use Rattle.encoding_kernels.specs.Following.{ValidUpTo};
 ghost use Rattle.std.specs.Str.{IsUtf8};
 
-use crate::simd::scan::{BytesBelow, all, is_zero, skip, zeros};
+use crate::simd::scan::{AllPass, BytesBelow, is_zero, skip, zeros};
 use crate::simd::short::with_zeros;
 use crate::simd::width::{ASCII_END, BLOCK, FOUR_BLOCKS, HALF_BLOCK, STRIDE, TWO_BLOCKS};
 use crate::tuning::{FIRST_PAIRS, MOST_PAIRS, MOST_SKIPPED};
@@ -139,7 +139,7 @@ fn skip_ascii(src: &[u8], at: usize) -> usize
         bytes: src,
         bound: ASCII_END,
     };
-    if !all::<HALF_BLOCK, TWO_BLOCKS, _>(&ascii, at) {
+    if !AllPass::<HALF_BLOCK, TWO_BLOCKS>::pass(&ascii, at) {
         return at;
     }
     let from = at + TWO_BLOCKS;

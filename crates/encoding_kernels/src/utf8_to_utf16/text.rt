@@ -39,7 +39,7 @@ pub fn convert_short(src: &[u8], dst: &mut [u16]) -> usize
         return written + write_tail(&src[read..], &mut dst[written..]);
     }
     let (bytes, bound) = (&src[read..], FOUR_BYTES);
-    if pass_short::<TWO_BLOCKS, _>(&BytesBelow { bytes, bound }) {
+    if pass_short::<TWO_BLOCKS, _>(&BytesBelow { bytes, bound }, bytes.len()) {
         return written + write_strides::<3>(&src[read..], &mut dst[written..]);
     }
     written + write_strides::<4>(&src[read..], &mut dst[written..])

@@ -12,14 +12,10 @@ use encoding_kernels::lengths::{BLOCK_OF_TEXT, STRIDE_OF_TEXT};
 use encoding_kernels::simd::copy::{
     copy, copy_run, copy_run_of_block, unpack, unpack_block, unpack_run,
 };
-use encoding_kernels::simd::joined::are_256_below;
 use encoding_kernels::simd::scan::{
     BytesBelow, are_bytes_below, prefix_after_stride, prefix_len_below, run_len_below,
 };
-use encoding_kernels::simd::short::pass_short;
-pub(crate) use encoding_kernels::simd::short::{
-    BytesToBytes, BytesToUnits, UnitsToBytes, write_short,
-};
+use encoding_kernels::simd::short::{pass_short, write_short};
 use encoding_kernels::simd::width::{ASCII_END, BLOCK, FOUR_BLOCKS, STRIDE, TWO_BLOCKS};
 
 /// Returns whether at most 128 bytes are ASCII.
@@ -29,16 +25,7 @@ pub(crate) fn is_short(bytes: &[u8]) -> bool
     ensures { IsTrue result ↔ IsAscii bytes.now }
 {
     let bound = ASCII_END;
-    pass_short::<TWO_BLOCKS, _>(&BytesBelow { bytes, bound })
-}
-
-/// Returns how many bytes of the first block precede the first that isn't ASCII.
-#[inline(always)]
-pub(crate) fn first_block_prefix(bytes: &[u8]) -> usize
-    requires { 64 ≤ length bytes.now }
-    ensures { IsRunBelow ASCII_END bytes.now 0 64 result }
-{
-    run_len_below::<BLOCK>(bytes, 0, ASCII_END)
+    pass_short::<TWO_BLOCKS, _>(&BytesBelow { bytes, bound }, bytes.len())
 }
 
 /// Returns the length of the longest ASCII prefix, as `ascii_valid_up_to` does, of at least N and at most 2 * N bytes. Two
@@ -75,7 +62,7 @@ pub(crate) fn ascii_valid_up_to_by_length<const KNOWN: usize, const ALL: bool>(
         if bytes.len() < BLOCK {
             return prefix_len_below(bytes, ASCII_END);
         }
-        let first = first_block_prefix(bytes);
+        let first = run_len_below::<BLOCK>(bytes, 0, ASCII_END);
         if first < BLOCK {
             return first;
         }
@@ -137,8 +124,11 @@ pub(crate) fn copy_ascii_prefix(src: &[u8], dst: &mut [u8]) -> usize
     ensures copied { WritesPrefix dst.old dst.new result (take result src.now) }
 {
     let fitting = &src[..src.len().min(dst.len())];
-    let text = BytesToBytes { src: fitting };
-    if fitting.len() <= TWO_BLOCKS && write_short::<TWO_BLOCKS, _, _>(&text, dst) {
+    let ascii = BytesBelow {
+        bytes: fitting,
+        bound: ASCII_END,
+    };
+    if fitting.len() <= TWO_BLOCKS && write_short::<TWO_BLOCKS, _, _>(&ascii, fitting.len(), dst) {
         return fitting.len();
     }
     let whole = length_of_strides(fitting.len());
@@ -152,12 +142,6 @@ pub(crate) fn copy_ascii_prefix(src: &[u8], dst: &mut [u8]) -> usize
     let run = run_len_below::<STRIDE>(fitting, last, ASCII_END);
     copy_run(fitting, dst, last, run);
     last + run
-}
-
-/// Returns whether 256 bytes of ASCII follow the first four bytes.
-#[inline(always)]
-pub(crate) fn precedes_ascii(bytes: &[u8]) -> bool {
-    bytes.len() >= 4 + FOUR_BLOCKS && are_256_below(bytes, 4, ASCII_END)
 }
 
 /// Copies blocks of ASCII from the start, each byte as a UTF-16 code unit, and returns how many bytes these are: all if all are
@@ -197,9 +181,12 @@ fn unpack_rest(src: &[u8], dst: &mut [u16]) -> usize
     ensures copied { WritesPrefix dst.old dst.new result (take result src.now) }
 {
     if src.len() >= BLOCK {
-        let run = first_block_prefix(src);
-        let text = BytesToUnits { src: &src[..run] };
-        write_short::<BLOCK, _, _>(&text, dst);
+        let run = run_len_below::<BLOCK>(src, 0, ASCII_END);
+        let ascii = BytesBelow {
+            bytes: &src[..run],
+            bound: ASCII_END,
+        };
+        write_short::<BLOCK, _, _>(&ascii, run, dst);
         return run;
     }
     let whole = length_of_strides(src.len());
@@ -242,8 +229,11 @@ pub(crate) fn copy_to_basic_latin(src: &[u8], dst: &mut [u16]) -> usize
     ensures copied { WritesPrefix dst.old dst.new result (take result src.now) }
 {
     let fitting = &src[..src.len().min(dst.len())];
-    let text = BytesToUnits { src: fitting };
-    if fitting.len() <= BLOCK && write_short::<BLOCK, _, _>(&text, dst) {
+    let ascii = BytesBelow {
+        bytes: fitting,
+        bound: ASCII_END,
+    };
+    if fitting.len() <= BLOCK && write_short::<BLOCK, _, _>(&ascii, fitting.len(), dst) {
         return fitting.len();
     }
     unpack_ascii_prefix(fitting, dst)

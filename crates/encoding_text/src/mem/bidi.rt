@@ -16,7 +16,8 @@ use crate::utf_8::utf8_valid_up_to;
 use encoding_kernels::bidi::bytes::{FIRST_LEAD, skip_clear};
 use encoding_kernels::bidi::units::{FIRST_UNIT, skip_clear_units};
 use encoding_kernels::scalar::decode_utf8_scalar;
-use encoding_kernels::simd::scan::{prefix_len_below, skip_units_below};
+use encoding_kernels::simd::scan::prefix_len_below;
+use encoding_kernels::simd::units::skip_units_below;
 use encoding_kernels::simd::width::{STRIDE, UNIT_STRIDE};
 use encoding_kernels::tuning::VALIDATED_PIECE;
 

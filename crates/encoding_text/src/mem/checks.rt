@@ -10,10 +10,10 @@ use crate::ascii::ascii_valid_up_to;
 use crate::ascii::prefixes::is_short;
 use encoding_kernels::latin1::validate::{BEYOND_LATIN1, latin1_blocks};
 use encoding_kernels::scalar::is_continuation;
-use encoding_kernels::simd::joined::are_256_below;
 use encoding_kernels::simd::scan::{
-    are_bytes_below, are_units_below, prefix_after_stride, prefix_len_below, run_len_below,
+    are_256_below, are_bytes_below, prefix_after_stride, prefix_len_below, run_len_below,
 };
+use encoding_kernels::simd::units::are_units_below;
 use encoding_kernels::simd::width::{
     ASCII_END, BASIC_LATIN_END, BLOCK, FOUR, FOUR_BLOCKS, SIXTEEN, STRIDE, UNIT_BLOCK,
 };

@@ -5,13 +5,14 @@ ghost use Rattle.std.specs.Prelude.{◌≡◌, ◌+◌, ◌-◌, ◌*◌, ◌%�
 ghost use Rattle.std.specs.Str.{IsAscii};
 ghost use Rattle.encoding_definitions.specs.Prefixes.{IsLongestFittingPrefix, WritesPrefix};
 
-use crate::ascii::prefixes::{BytesToBytes, copy_ascii_prefix, copy_blocks, write_short};
+use crate::ascii::prefixes::{copy_ascii_prefix, copy_blocks};
 use encoding_kernels::latin1::to_utf8::{
     utf8_length_of_first, write_few_latin1, write_latin1, write_latin1_block,
 };
 use encoding_kernels::scalar::write_scalar;
 use encoding_kernels::simd::copy::{copy_prefix, pack_lower, unpack_part};
-use encoding_kernels::simd::joined::are_64_below;
+use encoding_kernels::simd::scan::{BytesBelow, are_bytes_below};
+use encoding_kernels::simd::short::write_short;
 use encoding_kernels::simd::width::{ASCII_END, BLOCK, HALF_STRIDE, STRIDE, TWO_BLOCKS};
 use std::simd::prelude::*;
 
@@ -60,7 +61,7 @@ fn convert_latin1_blocks(src: &[u8], dst: &mut [u8]) -> (usize, usize)
     let mut read = 0;
     let mut written = 0;
     while src.len() - read >= BLOCK && dst.len() - written >= 2 * BLOCK {
-        if are_64_below(src, read, ASCII_END) {
+        if are_bytes_below::<BLOCK>(src, read, ASCII_END) {
             return (read, written);
         }
         written += write_latin1_block(src, read, dst, written);
@@ -217,8 +218,11 @@ pub fn convert_latin1_to_utf8_partial(src: &[u8], dst: &mut [u8]) -> (usize, usi
     if src.len() > TWO_BLOCKS {
         return convert_long_latin1(src, dst);
     }
-    let text = BytesToBytes { src };
-    if src.len() <= dst.len() && write_short::<TWO_BLOCKS, _, _>(&text, dst) {
+    let ascii = BytesBelow {
+        bytes: src,
+        bound: ASCII_END,
+    };
+    if src.len() <= dst.len() && write_short::<TWO_BLOCKS, _, _>(&ascii, src.len(), dst) {
         return (src.len(), src.len());
     }
     convert_few_latin1(src, dst)

@@ -8,10 +8,12 @@ ghost use Rattle.encoding_definitions.specs.Parts.{Part, ArePartsOf, lossy_utf16
 ghost use Rattle.encoding_definitions.specs.Prefixes.{WritesPrefix};
 ghost use Rattle.encoding_definitions.specs.Converting.{WritesText};
 
-use crate::ascii::prefixes::{BytesToUnits, unpack_ascii_prefix, write_short};
+use crate::ascii::prefixes::unpack_ascii_prefix;
 use crate::decoder::{DecoderResult, Utf8Decoder};
 use crate::utf_8::{convert_text, convert_utf8_to_utf16_up_to_invalid};
 use encoding_kernels::lengths::{BLOCK_OF_TEXT, SHORT};
+use encoding_kernels::simd::scan::BytesBelow;
+use encoding_kernels::simd::short::write_short;
 use encoding_kernels::simd::width::ASCII_END;
 use encoding_kernels::utf8_to_utf16::text::convert_short;
 
@@ -77,7 +79,8 @@ pub fn convert_str_to_utf16(src: &str, dst: &mut [u16]) -> usize
     if bytes.len() > SHORT {
         return convert_long_text(bytes, dst);
     }
-    if write_short::<SHORT, _, _>(&BytesToUnits { src: bytes }, dst) {
+    let bound = ASCII_END;
+    if write_short::<SHORT, _, _>(&BytesBelow { bytes, bound }, bytes.len(), dst) {
         return bytes.len();
     }
     convert_short(bytes, dst)

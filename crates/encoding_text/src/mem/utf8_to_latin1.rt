@@ -7,12 +7,13 @@ ghost use Rattle.encoding_definitions.specs.Prefixes.{WritesPrefix};
 ghost use Rattle.encoding_definitions.specs.Latin1.{IsUtf8Latin1};
 
 use super::latin1::copy_ascii;
-use crate::ascii::prefixes::{BytesToBytes, copy_blocks, write_short};
+use crate::ascii::prefixes::copy_blocks;
 use encoding_kernels::latin1::from_utf8::{
     latin1_length_of_first, latin1_of, latin1_of_after, write_latin1_of_two,
 };
 use encoding_kernels::simd::copy::write_first;
-use encoding_kernels::simd::scan::are_bytes_below;
+use encoding_kernels::simd::scan::{BytesBelow, are_bytes_below};
+use encoding_kernels::simd::short::write_short;
 use encoding_kernels::simd::width::{ASCII_END, BLOCK, STRIDE, TWO_BLOCKS};
 use encoding_kernels::tuning::BLOCKS_BEFORE_RETEST;
 use std::simd::prelude::*;
@@ -162,8 +163,11 @@ pub fn convert_utf8_to_latin1(src: &[u8], dst: &mut [u8]) -> usize
     if src.len() > TWO_BLOCKS {
         return convert_long_utf8(src, dst);
     }
-    let text = BytesToBytes { src };
-    if src.len() <= dst.len() && write_short::<TWO_BLOCKS, _, _>(&text, dst) {
+    let ascii = BytesBelow {
+        bytes: src,
+        bound: ASCII_END,
+    };
+    if src.len() <= dst.len() && write_short::<TWO_BLOCKS, _, _>(&ascii, src.len(), dst) {
         return src.len();
     }
     convert_few_utf8(src, dst)

@@ -6,10 +6,11 @@ ghost use Rattle.encoding_definitions.specs.Prefixes.{WritesPrefix};
 ghost use Rattle.encoding_definitions.specs.Utf16.{IsHighSurrogate, IsLowSurrogate, IsUtf8OfPrefix, IsUtf8OfLongestPrefix, IsUtf8OfUnits};
 
 use crate::ascii;
-use crate::ascii::prefixes::{UnitsToBytes, write_short};
 use encoding_kernels::scalar::{
     is_high_surrogate, is_low_surrogate, utf8_length, utf16_length, write_scalar,
 };
+use encoding_kernels::simd::short::write_short;
+use encoding_kernels::simd::units::UnitsBelow;
 use encoding_kernels::simd::width::{BASIC_LATIN_END, HALF_STRIDE, UNIT_BLOCK};
 use encoding_kernels::utf16_to_utf8::tail::scalar_at;
 use encoding_kernels::utf16_to_utf8::text::{convert_blocks, convert_paired_blocks};
@@ -42,9 +43,13 @@ fn copy_short_ascii(src: &[u16], dst: &mut [u8]) -> bool
         (take (length src.now) dst.new) }
     ensures unchanged { IsFalse result → dst.new ≡ dst.old }
 {
+    let ascii = UnitsBelow {
+        units: src,
+        bound: BASIC_LATIN_END,
+    };
     src.len() <= UNIT_BLOCK
         && src.len() <= dst.len().saturating_sub(LONGEST - 1)
-        && write_short::<UNIT_BLOCK, _, _>(&UnitsToBytes { src }, dst)
+        && write_short::<UNIT_BLOCK, _, _>(&ascii, src.len(), dst)
 }
 
 /// Returns whether a surrogate pair is at index `at`.

@@ -11,13 +11,14 @@ ghost use Rattle.encoding_text.specs.Steps.{ConvertsUntilFull};
 use super::first::{First, character_length};
 use super::validate::{utf8_valid_up_to, valid_beyond_ascii, valid_up_to_by_vectors};
 use crate::ascii::prefixes::{
-    BytesToUnits, copy_prefix_of_text, copy_to_basic_latin, is_short, precedes_ascii,
-    unpack_ascii_prefix, write_short,
+    copy_prefix_of_text, copy_to_basic_latin, is_short, unpack_ascii_prefix,
 };
 use encoding_kernels::lengths::{LEAST_FOR_VECTORS, SHORT};
 use encoding_kernels::scalar::{decode_utf8_scalar, write_utf16};
 use encoding_kernels::simd::copy::copy_prefix;
-use encoding_kernels::simd::width::ASCII_END;
+use encoding_kernels::simd::scan::{AllPass, BytesBelow};
+use encoding_kernels::simd::short::write_short;
+use encoding_kernels::simd::width::{ASCII_END, FOUR_BLOCKS, HALF_BLOCK};
 use encoding_kernels::tuning::CONVERTED_PIECE;
 use encoding_kernels::utf8_to_utf16::text::{convert_short, convert_valid_utf8_to_utf16};
 
@@ -82,7 +83,8 @@ fn convert_short_prefix(src: &[u8], dst: &mut [u16]) -> (usize, usize)
     requires dst_length { length src.now ≤ length dst.old }
     ensures { ConvertsMaximal encode_utf16 src.now dst.old dst.new result.0 result.1 }
 {
-    if write_short::<SHORT, _, _>(&BytesToUnits { src }, dst) {
+    let bound = ASCII_END;
+    if write_short::<SHORT, _, _>(&BytesBelow { bytes: src, bound }, src.len(), dst) {
         return (src.len(), src.len());
     }
     if src.len() < LEAST_FOR_VECTORS {
@@ -94,7 +96,11 @@ fn convert_short_prefix(src: &[u8], dst: &mut [u16]) -> (usize, usize)
     }
     // before a malformed sequence there is often only ASCII
     let text = &src[..valid];
-    let written = if write_short::<SHORT, _, _>(&BytesToUnits { src: text }, dst) {
+    let written = if write_short::<SHORT, _, _>(
+        &BytesBelow { bytes: text, bound },
+        text.len(),
+        dst,
+    ) {
         valid
     } else {
         convert_short(text, dst)
@@ -131,7 +137,11 @@ pub(crate) fn convert_text(src: &[u8], dst: &mut [u16]) -> usize
 fn piece_length(src: &[u8], room: usize) -> usize
     ensures { (result ≤ length src.now) × (result ≤ room) }
 {
-    if precedes_ascii(src) {
+    let ascii = BytesBelow {
+        bytes: src,
+        bound: ASCII_END,
+    };
+    if src.len() >= 4 + FOUR_BLOCKS && AllPass::<HALF_BLOCK, FOUR_BLOCKS>::pass(&ascii, 4) {
         return 0;
     }
     src.len().min(room).min(CONVERTED_PIECE)

@@ -5,10 +5,9 @@ ghost use Rattle.encoding_definitions.specs.Prefixes.{IsLongestPrefix};
 ghost use Rattle.encoding_kernels.specs.Scans.{BelowUpTo};
 
 use super::first::{First, character_length};
-use crate::ascii::prefixes::{
-    ascii_valid_up_to_by_length, ascii_valid_up_to_by_two, first_block_prefix, is_short,
-};
+use crate::ascii::prefixes::{ascii_valid_up_to_by_length, ascii_valid_up_to_by_two, is_short};
 use encoding_kernels::lengths::{LEAST_FOR_VECTORS, SHORT, TWO_WIDEST_VECTORS};
+use encoding_kernels::simd::scan::run_len_below;
 use encoding_kernels::simd::width::{ASCII_END, BLOCK, HALF_BLOCK, STRIDE};
 use encoding_kernels::utf8::validate::{well_formed_blocks, well_formed_short};
 
@@ -93,7 +92,7 @@ fn long_valid_up_to(src: &[u8]) -> usize
     requires { 64 < length src.now }
     ensures { IsLongestPrefix IsUtf8 src.now result }
 {
-    let first = first_block_prefix(src);
+    let first = run_len_below::<BLOCK>(src, 0, ASCII_END);
     if first != BLOCK {
         if First::begins_none(&src[first..]) {
             return first;

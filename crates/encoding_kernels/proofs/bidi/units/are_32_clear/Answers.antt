@@ -10,4 +10,4 @@ returns-then-is_zero c t =
 pub returns-then-is_zero-2 : goal.returns-then-is_zero-2
 returns-then-is_zero-2 c t =
     none_but_forms c.args.units.now c.args.at _ _ _ c.bytes_of_32.ensures.upper c.bytes_of_32.ensures.lower (λ k. (c.type_inv.units k).fits)
-    c.groups_of_32-groups.ensures.length c.groups_of_32-groups.ensures.others (c.if-is_zero-2.ensures refl) (c.all.ensures.0 t)
+    c.groups_of_32-groups.ensures.length c.groups_of_32-groups.ensures.others (c.if-is_zero-2.ensures refl) (c.pass.ensures.0 t)

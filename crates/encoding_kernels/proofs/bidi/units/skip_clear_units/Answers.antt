@@ -6,16 +6,16 @@ use Rattle.encoding_kernels.proofs.bidi.units.skip_clear_units.Goals.{else-loop-
 
 pub loop-at-preserved-then-next-at-lt-LOW_UNITS : goal.loop-at-preserved-then-next-at-lt-LOW_UNITS
 loop-at-preserved-then-next-at-lt-LOW_UNITS c = record {
-  within = (omega (arith, c.skip_clear_unit_blocks-at.ensures.within, c.skip_joined-next.ensures.within), omega (arith, c.skip_joined-next.ensures.within));
-  none = units_and_low _ _ _ _ _ c.loop-at.invariant.none c.skip_clear_unit_blocks-at.ensures.no_rtl c.skip_joined-next.ensures.pass;
+  within = (omega (arith, c.skip_clear_unit_blocks-at.ensures.within, c.skip-next.ensures.within), omega (arith, c.skip-next.ensures.within));
+  none = units_and_low _ _ _ _ _ c.loop-at.invariant.none c.skip_clear_unit_blocks-at.ensures.no_rtl c.skip-next.ensures.pass;
   some = omega (arith, c.min-blocks.ensures);
   few = omega (arith, c.min-blocks.ensures);
 }
 
 pub loop-at-preserved : goal.loop-at-preserved
 loop-at-preserved c = record {
-  within = (omega (arith, c.skip_clear_unit_blocks-at.ensures.within, c.skip_joined-next.ensures.within), omega (arith, c.skip_joined-next.ensures.within));
-  none = units_and_low _ _ _ _ _ c.loop-at.invariant.none c.skip_clear_unit_blocks-at.ensures.no_rtl c.skip_joined-next.ensures.pass;
+  within = (omega (arith, c.skip_clear_unit_blocks-at.ensures.within, c.skip-next.ensures.within), omega (arith, c.skip-next.ensures.within));
+  none = units_and_low _ _ _ _ _ c.loop-at.invariant.none c.skip_clear_unit_blocks-at.ensures.no_rtl c.skip-next.ensures.pass;
   some = omega arith;
   few = omega arith;
 }

@@ -5,7 +5,7 @@ use Rattle.encoding_kernels.proofs.simd.scan.skip.Given as goal
 abbrev pub invariant-loop-at : goal.invariant-loop-at
 invariant-loop-at g l = record {
   within : (l.from ≤ l.at) × (l.at ≤ l.end);
-  pass : PassBetween (g.T.LanePredicate.passes l.test) l.from l.at;
+  pass : PassBetween (g.T.Test.passes l.test) l.from l.at;
 }
 
 abbrev pub decreases-loop-at : goal.decreases-loop-at

@@ -6,10 +6,10 @@ use Rattle.encoding_kernels.proofs.simd.short.write_few.Goals as goal
 pub returns-clause-written : goal.returns-clause-written
 returns-clause-written g c _ =
     let old = c.args.dst.now in
-    let units = g.T.ShortCopy.units c.args.text.now in
-    let long = g.met.T.ShortCopy.long c.args.text.now in
-    let middle = c.count.result / 2 in
-    let last = c.count-2.result - 1 in
+    let units = g.T.ShortCopy.units c.args.test.now in
+    let long = g.met.T.ShortCopy.long c.args.test.now in
+    let middle = c.args.count / 2 in
+    let last = c.args.count - 1 in
     let first = WritesPrefix_again old old c.write.new.dst units 0 0 1 (WritesPrefix-nil old) (omega arith) (omega arith)
     (omega (arith, long)) (omega arith) c.write.ensures in
     let two = WritesPrefix_again old _ _ units (0 + 1) middle 1 first (omega arith) (omega arith) (omega (arith, long)) (omega arith) c.write-2.ensures in

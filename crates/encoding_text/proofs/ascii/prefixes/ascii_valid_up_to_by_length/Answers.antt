@@ -15,7 +15,7 @@ prefix_after_stride-requires g c = (
   omega (arith, c.if-bytes-gt-TWO_BLOCKS.true),
   λ k l. elim c.if-this-lt-BLOCK.branch [
     | then-this-lt-BLOCK+else-bytes-lt-BLOCK+else-first-lt-BLOCK w ↦
-        w.first_block_prefix-first.ensures.pass k (omega arith) (omega (arith, l, w.if-first-lt-BLOCK.false))
+        w.run_len_below-first.ensures.pass k (omega arith) (omega (arith, l, w.if-first-lt-BLOCK.false))
     | else-this-lt-BLOCK w ↦ c.requires.known.1 k (omega (arith, l, w.if-this-lt-BLOCK.false))
   ],
 )
@@ -31,7 +31,7 @@ returns g c =
     let first : (64 ≤ length bytes) × BelowUpTo 0x80 bytes 64 = elim c.if-this-lt-BLOCK.branch [
       | then-this-lt-BLOCK+else-bytes-lt-BLOCK+else-first-lt-BLOCK w ↦ (
         omega (arith, w.if-bytes-lt-BLOCK.false),
-        λ k l. w.first_block_prefix-first.ensures.pass k (omega arith) (omega (arith, l, w.if-first-lt-BLOCK.false)),
+        λ k l. w.run_len_below-first.ensures.pass k (omega arith) (omega (arith, l, w.if-first-lt-BLOCK.false)),
       )
       | else-this-lt-BLOCK w ↦ (
         omega (arith, c.requires.known.0, w.if-this-lt-BLOCK.false),

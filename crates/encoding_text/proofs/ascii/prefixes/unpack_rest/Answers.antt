@@ -5,15 +5,15 @@ use Rattle.encoding_text.proofs.ascii.prefixes.unpack_rest.Goals as goal
 
 pub returns-then-src-ge-BLOCK-clause-prefix : goal.returns-then-src-ge-BLOCK-clause-prefix
 returns-then-src-ge-BLOCK-clause-prefix c =
-    first_run c.args.src.now c.first_block_prefix-run.result c.if-src-ge-BLOCK.true c.first_block_prefix-run.ensures (c.requires.other c.if-src-ge-BLOCK.true)
+    first_run c.args.src.now c.run_len_below-run.result c.if-src-ge-BLOCK.true c.run_len_below-run.ensures (c.requires.other c.if-src-ge-BLOCK.true)
 
 pub returns-then-src-ge-BLOCK-clause-copied : goal.returns-then-src-ge-BLOCK-clause-copied
 returns-then-src-ge-BLOCK-clause-copied c =
     let run =
-    first_run c.args.src.now c.first_block_prefix-run.result c.if-src-ge-BLOCK.true c.first_block_prefix-run.ensures
+    first_run c.args.src.now c.run_len_below-run.result c.if-src-ge-BLOCK.true c.run_len_below-run.ensures
     (c.requires.other c.if-src-ge-BLOCK.true) in
     let all = c.write_short.ensures.pass.1 (λ k from to. run.kind k) in
-    WritesPrefix-same _ _ _ _ _ _ (c.write_short.ensures.written all) (length-take-le c.first_block_prefix-run.result c.args.src.now run.within) refl
+    c.write_short.ensures.written all
 
 pub returns-in-Some-clause-prefix : goal.returns-in-Some-clause-prefix
 returns-in-Some-clause-prefix c =
@@ -26,8 +26,8 @@ returns-clause-prefix c =
     let whole = c.length_of_strides-whole.result in
     let call = c.length_of_strides-whole.ensures in
     let ascii = fitting_ascii src c.args.dst.now whole call.within.0 c.requires.dst_length c.in_default.ensures.found in
-    prefix_on src whole 16 c.run_len_below-run.result call.within.0 (omega (arith, call.within.1)) (omega (arith, call.whole, c.if-whole-src.false)) ascii
-    c.run_len_below-run.ensures
+    prefix_on src whole 16 c.run_len_below-run-2.result call.within.0 (omega (arith, call.within.1)) (omega (arith, call.whole, c.if-whole-src.false)) ascii
+    c.run_len_below-run-2.ensures
 
 pub returns-clause-copied : goal.returns-clause-copied
 returns-clause-copied c =
@@ -37,6 +37,6 @@ returns-clause-copied c =
     let call = c.length_of_strides-whole.ensures in
     let ascii = fitting_ascii src old whole call.within.0 c.requires.dst_length c.in_default.ensures.found in
     let start = fitting_copied src old whole call.within.0 c.requires.dst_length c.ascii_to_basic_latin.new.dst c.in_default.ensures.copied in
-    copied_on src whole 16 c.run_len_below-run.result call.within.0 (omega (arith, call.within.1)) (omega (arith, call.whole, c.if-whole-src.false)) ascii
-    c.run_len_below-run.ensures
+    copied_on src whole 16 c.run_len_below-run-2.result call.within.0 (omega (arith, call.within.1)) (omega (arith, call.whole, c.if-whole-src.false)) ascii
+    c.run_len_below-run-2.ensures
     old c.ascii_to_basic_latin.new.dst _ c.requires.dst_length start c.unpack_run.ensures

@@ -9,9 +9,9 @@ use Rattle.encoding_text.proofs.utf_8.validate.long_valid_up_to.Goals as goal
 pub returns-then-begins_none : goal.returns-then-begins_none
 returns-then-begins_none c =
     let src = c.args.src.now in
-    let run = c.first_block_prefix-first.ensures in
-    let below = Each-take (λ b. b < 0x80) (omega arith) src c.first_block_prefix-first.result (λ k l. run.pass k (omega arith) (omega (arith, l))) in
-    IsLongestPrefix-utf8 src c.first_block_prefix-first.result (omega (arith, run.within)) (IsUtf8-from_ascii _ below)
+    let run = c.run_len_below-first.ensures in
+    let below = Each-take (λ b. b < 0x80) (omega arith) src c.run_len_below-first.result (λ k l. run.pass k (omega arith) (omega (arith, l))) in
+    IsLongestPrefix-utf8 src c.run_len_below-first.result (omega (arith, run.within)) (IsUtf8-from_ascii _ below)
     (rw take_rest at (c.begins_none.ensures c.if-begins_none.true))
 
 pub returns-then-is_short : goal.returns-then-is_short

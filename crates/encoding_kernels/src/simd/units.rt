@@ -1,0 +1,122 @@
+//! Scans for UTF-16 code units below a bound, and the longest prefix of these.
+
+ghost use Rattle.std.specs.Prelude.{◌≡◌, ◌+◌, ◌<◌, ◌≤◌, ◌↔◌, IsTrue, length, slice_index};
+ghost use Rattle.encoding_kernels.specs.Following.{IsZeroTo};
+ghost use Rattle.encoding_kernels.specs.Scans.{AllBelow, IsRunBelow, BelowUpTo};
+
+use crate::simd::scan::{AllPass, LanePredicate, Test, find, reach, run, skip};
+use crate::simd::width::{HALF_UNIT_BLOCK, STRIDE, UNIT_BLOCK, UNIT_STRIDE};
+use std::simd::Simd;
+use std::simd::prelude::*;
+
+/// UTF-16 code units that are below a bound.
+#[derive(Drop)]
+pub struct UnitsBelow<'a> {
+    pub units: &'a [u16],
+    pub bound: u16,
+}
+
+impl<'a> Test for UnitsBelow<'a> {
+    ghost count = { λ s. length s.units.now };
+
+    ghost passes = { λ s k. slice_index s.units.now k < s.bound };
+}
+
+impl<'a, const N: usize> LanePredicate<N> for UnitsBelow<'a> {
+    #[inline(always)]
+    fn failing(&self, at: usize) -> u64 {
+        let units = self.units;
+        let others = Simd::<u16, N>::from_slice(&units[at..]).simd_ge(Simd::splat(self.bound));
+        others.to_bitmask()
+    }
+}
+
+impl<'a, const N: usize> AllPass<N, N> for UnitsBelow<'a> {
+    #[inline(always)]
+    fn pass(&self, at: usize) -> bool {
+        if N < UNIT_BLOCK {
+            return LanePredicate::<N>::failing(self, at) == 0;
+        }
+        let others = others_of_32(self.units, at, self.bound)
+            | others_of_32(self.units, at + (N - HALF_UNIT_BLOCK), self.bound);
+        is_zero_block(others)
+    }
+}
+
+impl<'a> AllPass<STRIDE, HALF_UNIT_BLOCK> for UnitsBelow<'a> {
+    #[inline(always)]
+    fn pass(&self, at: usize) -> bool {
+        is_zero_block(others_of_32(self.units, at, self.bound))
+    }
+}
+
+/// Returns zero in the bytes of those of the 32 code units from `at` on that are below the bound, as words of 64 bits are
+/// tested: to get a mask, x86-64 would pack the units first, and ARM has no instruction for one.
+#[inline(always)]
+fn others_of_32(units: &[u16], at: usize, bound: u16) -> u8x64
+    requires { at + 32 ≤ length units.now }
+    ensures long { length result ≡ 64 }
+    ensures zero { IsZeroTo result 64 ↔ AllBelow bound units.now at 32 }
+{
+    let others = u16x32::from_slice(&units[at..]).simd_ge(u16x32::splat(bound));
+    others
+        .select(u16x32::splat(0xFFFF), u16x32::splat(0))
+        .to_le_bytes()
+}
+
+/// Returns whether each lane of a block is zero.
+#[inline(always)]
+fn is_zero_block(lanes: u8x64) -> bool
+    ensures { IsTrue result ↔ IsZeroTo lanes 64 }
+{
+    u64x8::from_le_bytes(lanes).reduce_or() == 0
+}
+
+/// Returns whether each of the N UTF-16 code units from `at` on is below the bound.
+#[inline(always)]
+pub fn are_units_below<const N: usize>(units: &[u16], at: usize, bound: u16) -> bool
+    requires { (at + N ≤ length units.now) × (0 < N) × (N ≤ 64) }
+    ensures { IsTrue result ↔ AllBelow bound units.now at N }
+{
+    AllPass::<N, N>::pass(&UnitsBelow { units, bound }, at)
+}
+
+/// Returns how many of the N UTF-16 code units from `at` on precede the first that isn't below the bound.
+#[inline(always)]
+pub fn units_run_len_below<const N: usize>(units: &[u16], at: usize, bound: u16) -> usize
+    requires { (at + N ≤ length units.now) × (0 < N) × (N ≤ 64) }
+    ensures { IsRunBelow bound units.now at N result }
+{
+    run::<N, _>(&UnitsBelow { units, bound }, at)
+}
+
+/// Returns the length of the longest prefix of UTF-16 code units below the bound.
+#[inline(always)]
+pub fn units_prefix_len_below(units: &[u16], bound: u16) -> usize
+    ensures within { result ≤ length units.now }
+    ensures below { BelowUpTo bound units.now result }
+    ensures stops { result < length units.now → bound ≤ slice_index units.now result }
+{
+    let test = UnitsBelow { units, bound };
+    match units.len() {
+        ..UNIT_STRIDE => skip::<1, 1, _>(&test, 0, units.len()),
+        ..HALF_UNIT_BLOCK => find::<UNIT_STRIDE, _>(&test, 0, units.len()),
+        _ => find::<HALF_UNIT_BLOCK, _>(&test, 0, units.len()),
+    }
+}
+
+/// Skips UTF-16 code units from the start that are below the bound, by vectors, and returns how many: all if all are. A unit
+/// that isn't may follow others that are, which are not skipped.
+#[inline(always)]
+pub fn skip_units_below(units: &[u16], bound: u16) -> usize
+    ensures within { result ≤ length units.now }
+    ensures below { BelowUpTo bound units.now result }
+    ensures whole { BelowUpTo bound units.now (length units.now) → result ≡ length units.now }
+{
+    let test = UnitsBelow { units, bound };
+    match units.len() {
+        ..UNIT_STRIDE => skip::<1, 1, _>(&test, 0, units.len()),
+        ..HALF_UNIT_BLOCK => reach::<UNIT_STRIDE, UNIT_STRIDE, _>(&test, 0, units.len()),
+        _ => reach::<STRIDE, HALF_UNIT_BLOCK, _>(&test, 0, units.len()),
+    }
+}
