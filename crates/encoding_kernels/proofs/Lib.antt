@@ -23,6 +23,7 @@ pub mod SurrogatePairsLemmas
 pub mod UniformLemmas
 pub mod UnitBytesLemmas
 pub mod UnpairedLemmas
+pub mod UpToSurrogateLemmas
 pub mod Utf16ToUtf8Lemmas
 pub mod Utf8LookupLemmas
 pub mod Utf8ToUtf16Lemmas

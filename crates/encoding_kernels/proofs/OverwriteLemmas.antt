@@ -202,6 +202,13 @@ spills_back old mid out at n s p few room =
     put_back 16 old mid (at + n) room p.long (later (at + n + s) (16 - s) (at + n + 16) mid old p.following over)
     ∙ ap (λ xs. xs ++ drop (at + n) old) p.prefix ∙ append_assoc (take at old) out (drop (at + n) old)
 
+-- what was read after the bytes is written back
+pub spills_rest : (old mid out : List ℕ) (at n count : ℕ) → n ≡ count → Spills old mid at count 16 out → at + count + 16 ≤ length old
+    → Spills old (put_chunk (at + n) mid (chunk (at + n) 16 old)) at count 0 out
+spills_rest old mid out at n count same p room =
+    subst (λ k. Spills old (put_chunk (at + k) mid (chunk (at + k) 16 old)) at count 0 out) (sym same)
+    (exact_spills old _ out at count p.counted (omega arith) (spills_back old mid out at count 16 p (omega arith) room))
+
 -- one more block: it has at least as many bytes as the one before it spilled
 pub due_then : (us old d e : List ℕ) (read w s c t : ℕ) → SpillsBmp us old d read w s → read + 16 ≤ length us → s ≤ 16 → w + c ≤ length d
     → StoresBlock (take 16 (drop read us)) d e w c t → SpillsBmp us old e (read + 16) (w + c) t
@@ -253,6 +260,12 @@ due_block us old d e due read w s c t p more room b = record {
   fits = λ l. omega arith;
   bound = omega (arith, p.bound, b.bounds);
 }
+
+-- the same of units that are the next sixteen
+pub due_block_from : (us block old d e : List ℕ) (due read w s c t : ℕ) → block ≡ take 16 (drop read us) → ConvertsDue us old d due read w s
+    → read + 32 ≤ length us → 3 * length us ≤ length old → StoresBlock block d e w c t → ConvertsDue us old e due (read + 16) (w + c) t
+due_block_from us block old d e due read w s c t same p more room b =
+    due_block us old d e due read w s c t p more room (subst (λ xs. StoresBlock xs d e w c t) same b)
 
 module _ {us old d sub : List ℕ} {due read w s n m t : ℕ} (p : ConvertsDue us old d due read w s)
     (q : ConvertsDue (take (length us - read) (drop read us)) (take (length d - w) (drop w d)) sub s n m t) where
@@ -311,6 +324,12 @@ module _ {us old d sub : List ℕ} {due read w s n m t : ℕ} (p : ConvertsDue u
         bound = omega (arith, p.bound, q.bound);
       }
 
+-- the same of units that are what is left
+pub due_more_from : {us rest old d sub : List ℕ} {due read w s n m t : ℕ} → rest ≡ take (length us - read) (drop read us) → ConvertsDue us old d due read w s
+    → ConvertsDue rest (take (length d - w) (drop w d)) sub s n m t → ConvertsDue us old (put_mid w (length d - w) d sub) due (read + n) (w + m) t
+due_more_from {us} {rest} {old} {d} {sub} {due} {read} {w} {s} {n} {m} {t} e p q =
+    due_more p (subst (λ xs. ConvertsDue xs (take (length d - w) (drop w d)) sub s n m t) e q)
+
 -- blocks of the first units
 pub due_of_first : {us old new : List ℕ} {due read w s : ℕ} (e : ℕ) → e ≤ length us → ConvertsDue (take e us) old new due read w s
     → SpillsBmp us old new read w s
@@ -326,3 +345,8 @@ due_of_first {us} {old} {new} {due} {read} {w} {s} e within p =
       following = p.written.following;
       long = p.written.long;
     }
+
+pub due_of_first_from : {us first old new : List ℕ} {due read w s : ℕ} (e : ℕ) → first ≡ take e us → e ≤ length us → ConvertsDue first old new due read w s
+    → SpillsBmp us old new read w s
+due_of_first_from {us} {first} {old} {new} {due} {read} {w} {s} e same within p =
+    due_of_first e within (subst (λ xs. ConvertsDue xs old new due read w s) same p)

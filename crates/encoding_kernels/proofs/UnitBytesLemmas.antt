@@ -1,10 +1,13 @@
 -- Code units of bytes: each by its index, sixteen as a vector, and the bytes of code units.
-use Rattle.std.proofs.Common.{◌≡◌, ℕ, zero, suc, ◌+◌, ◌-◌, ◌*◌, ◌/◌, ◌%◌, ◌^◌, ◌<◌, ◌≤◌, Bool, true, false, List, [], ◌∷◌, ◌++◌, length, take, drop, get_or, refl, set, map, bit_and, inl, inr, sym, ap, ◌∙◌, arith, replicate}
-use Rattle.std.proofs.lemmas.List.{get_or-take, get_or-drop, length-drop, length-map, length-take-le, get_or-map, take_more}
+use Rattle.std.proofs.Common.{◌≡◌, ℕ, zero, suc, ◌+◌, ◌-◌, ◌*◌, ◌/◌, ◌%◌, ◌^◌, ◌<◌, ◌≤◌, Bool, true, false, List, [], ◌∷◌, ◌++◌, length, take, drop, get_or, refl, set, map, bit_and, bit_or, inl, inr, sym, ap, ◌∙◌, arith, replicate}
+use Rattle.std.proofs.lemmas.List.{get_or-take, get_or-drop, length-drop, length-map, length-take-le, get_or-map, take_more, take_rest, take_all, take_at, take-take, length-append}
+use Rattle.std.proofs.Math.Seq.{drop-nil}
 use Rattle.std.proofs.lemmas.Grind.{same_number_lists}
 use Rattle.std.proofs.lemmas.Bool.{cases_lt, false≢true}
 use Rattle.std.proofs.lemmas.Simd.{Each1-chunk, Each1-get_or, get_or-chunk, length-chunk}
 use lib.Lanes.{zip2, chunk, Each1}
+use Rattle.std.proofs.lemmas.Nat.{le_or_l, le_or_r}
+use Rattle.std.proofs.lemmas.Simd.{get_or-zip2, length-zip2}
 use Rattle.encoding_definitions.specs.Prefixes.{WritesPrefix}
 use Rattle.encoding_definitions.proofs.PrefixesLemmas.{WritesPrefix-same, WritesPrefix_push}
 use Rattle.encoding_kernels.specs.Scans.{AllBelow, BelowUpTo, HasLanes}
@@ -16,6 +19,57 @@ pub length-units_of : (big : Bool) (bs : List ℕ) → length (units_of big bs) 
 length-units_of big [] = refl
 length-units_of big (a ∷ []) = refl
 length-units_of big (a ∷ b ∷ bs) = omega (arith, length-units_of big bs)
+
+step_of : (n : ℕ) → 2 * suc n ≡ suc (suc (2 * n))
+step_of n = omega arith
+
+pub units_of-drop : (big : Bool) (n : ℕ) (bs : List ℕ) → units_of big (drop (2 * n) bs) ≡ drop n (units_of big bs)
+units_of-drop big zero bs = refl
+units_of-drop big (suc n) [] = ap (λ k. units_of big (drop k [])) (step_of n)
+units_of-drop big (suc n) (a ∷ []) = ap (λ k. units_of big (drop k (a ∷ []))) (step_of n) ∙ ap (units_of big) (drop-nil (suc (2 * n)))
+units_of-drop big (suc n) (a ∷ b ∷ bs) = ap (λ k. units_of big (drop k (a ∷ b ∷ bs))) (step_of n) ∙ units_of-drop big n bs
+
+pub units_of-take : (big : Bool) (n : ℕ) (bs : List ℕ) → units_of big (take (2 * n) bs) ≡ take n (units_of big bs)
+units_of-take big zero bs = refl
+units_of-take big (suc n) [] = ap (λ k. units_of big (take k [])) (step_of n)
+units_of-take big (suc n) (a ∷ []) = ap (λ k. units_of big (take k (a ∷ []))) (step_of n)
+units_of-take big (suc n) (a ∷ b ∷ bs) = ap (λ k. units_of big (take k (a ∷ b ∷ bs))) (step_of n) ∙ ap (λ us. unit_of big a b ∷ us) (units_of-take big n bs)
+
+-- bytes make code units
+pub units_of-fit : (big : Bool) (bs : List ℕ) → ((k : ℕ) → get_or bs k 0 < 256) → (k : ℕ) → get_or (units_of big bs) k 0 < 0x10000
+units_of-fit big [] h k = omega (arith, h k)
+units_of-fit big (a ∷ []) h k = omega (arith, h k)
+units_of-fit false (a ∷ b ∷ bs) h zero = omega (arith, h 0, h 1)
+units_of-fit true (a ∷ b ∷ bs) h zero = omega (arith, h 0, h 1)
+units_of-fit big (a ∷ b ∷ bs) h (suc k) = units_of-fit big bs (λ j. h (suc (suc j))) k
+
+-- what is left after n code units
+pub units_of-rest : (big : Bool) (n : ℕ) (bs : List ℕ) → 2 * n ≤ length bs
+    → units_of big (take (length bs - 2 * n) (drop (2 * n) bs)) ≡ take (length (units_of big bs) - n) (drop n (units_of big bs))
+units_of-rest big n bs l = ap (units_of big) (take_rest bs (2 * n)) ∙ units_of-drop big n bs ∙ sym (take_rest (units_of big bs) n)
+
+-- fewer than sixteen code units, with zeros after them
+module _ (big : Bool) (bs part zeros lanes : List ℕ) (n : ℕ) (is : n ≡ length bs / 2) (few : n < 16) (same : part ≡ take (2 * n) bs)
+    (rest : length zeros ≡ 32 - 2 * n) (loaded : lanes ≡ take 16 (units_of big (part ++ zeros))) where
+  part_long : length part ≡ 2 * n
+  part_long = ap length same ∙ length-take-le (2 * n) bs (omega (arith, is))
+
+  lanes_long : length lanes ≡ 16
+  lanes_long = ap length loaded ∙ length-take-le 16 (units_of big (part ++ zeros))
+      (omega (arith, length-units_of big (part ++ zeros), length-append part zeros, part_long, rest))
+
+  pub few_units : (length lanes ≡ 16) × (take (length (take 16 (units_of big bs))) lanes ≡ take 16 (units_of big bs))
+  few_units =
+      let us = units_of big bs in
+      let long : length us ≡ n = omega (arith, length-units_of big bs, is) in
+      let whole : take 16 us ≡ us = take_all 16 us (omega (arith, long)) in
+      let all : units_of big (take (2 * n) bs) ≡ us = units_of-take big n bs ∙ take_all n us (omega (arith, long)) in
+      let start : take (2 * n) (part ++ zeros) ≡ part = take_at part zeros (2 * n) part_long in (
+        lanes_long,
+        ap (λ xs. take (length xs) lanes) whole ∙ ap (λ k. take k lanes) long ∙ ap (take n) loaded
+            ∙ take-take n 16 (units_of big (part ++ zeros)) (omega (arith, few)) ∙ sym (units_of-take big n (part ++ zeros))
+            ∙ ap (units_of big) (start ∙ same) ∙ all ∙ sym whole,
+      )
 
 -- a code unit by its index
 pub unit_at_is : (big : Bool) (bs : List ℕ) (k : ℕ) → 2 * k + 2 ≤ length bs
@@ -125,3 +179,39 @@ one_unit_more old new us n unit e l room w =
 -- sixteen more
 pub below_joined : (bound : ℕ) (us : List ℕ) (at n : ℕ) → BelowUpTo bound us at → AllBelow bound us at n → BelowUpTo bound us (at + n)
 below_joined bound us at n h g = λ k l. elim (cases_lt k at) [ inl p ↦ h k p | inr p ↦ g k p l ]
+
+-- four times sixteen code units whose lanes were joined
+or_below : (bound k : ℕ) (xs ys : List ℕ) → length xs ≡ 16 → length ys ≡ 16 → k < 16 → get_or (zip2 bit_or xs ys) k 0 < bound
+    → (get_or xs k 0 < bound) × (get_or ys k 0 < bound)
+or_below bound k xs ys l m few h =
+    let same = get_or-zip2 bit_or xs ys k 0 0 0 (omega (arith, l)) (omega (arith, m)) in
+    let first = le_or_l (get_or xs k 0) (get_or ys k 0) in
+    let second = le_or_r (get_or xs k 0) (get_or ys k 0) in
+    (omega (arith, same, first, h), omega (arith, same, second, h))
+
+module _ (big : Bool) (bs a b c d : List ℕ) (at : ℕ) (room : 2 * at + 128 ≤ length bs) where
+  long : (k : ℕ) → k ≤ 48 → length (take 16 (drop (at + k) (units_of big bs))) ≡ 16
+  long k l = sixteen_long big bs (at + k) (omega (arith, room, l))
+
+  pub four_below : (bound : ℕ) → a ≡ take 16 (drop at (units_of big bs)) → b ≡ take 16 (drop (at + 16) (units_of big bs))
+      → c ≡ take 16 (drop (at + 32) (units_of big bs)) → d ≡ take 16 (drop (at + 48) (units_of big bs))
+      → ((k : ℕ) → k < 16 → get_or (zip2 bit_or (zip2 bit_or a b) (zip2 bit_or c d)) k 0 < bound) → AllBelow bound (units_of big bs) at 64
+  four_below bound e f g h below =
+      let la : length a ≡ 16 = ap length e ∙ sixteen_long big bs at (omega (arith, room)) in
+      let lb : length b ≡ 16 = ap length f ∙ long 16 (omega arith) in
+      let lc : length c ≡ 16 = ap length g ∙ long 32 (omega arith) in
+      let ld : length d ≡ 16 = ap length h ∙ long 48 (omega arith) in
+      let lab : length (zip2 bit_or a b) ≡ 16 = length-zip2 bit_or a b (la ∙ sym lb) ∙ la in
+      let lcd : length (zip2 bit_or c d) ≡ 16 = length-zip2 bit_or c d (lc ∙ sym ld) ∙ lc in
+      let halves = λ (k : ℕ) (l : k < 16). or_below bound k (zip2 bit_or a b) (zip2 bit_or c d) lab lcd l (below k l) in
+      let first = sixteen_below big bs a at bound e (λ k l. (or_below bound k a b la lb l (halves k l).0).0) in
+      let second = sixteen_below big bs b (at + 16) bound f (λ k l. (or_below bound k a b la lb l (halves k l).0).1) in
+      let third = sixteen_below big bs c (at + 32) bound g (λ k l. (or_below bound k c d lc ld l (halves k l).1).0) in
+      let fourth = sixteen_below big bs d (at + 48) bound h (λ k l. (or_below bound k c d lc ld l (halves k l).1).1) in
+      λ k from to. elim (cases_lt k (at + 16)) [
+        | inl p ↦ first k from p
+        | inr p ↦ elim (cases_lt k (at + 32)) [
+          | inl q ↦ second k p (omega (arith, q))
+          | inr q ↦ elim (cases_lt k (at + 48)) [ inl s ↦ third k q (omega (arith, s)) | inr s ↦ fourth k s (omega (arith, to)) ]
+        ]
+      ]

@@ -17,7 +17,7 @@ use borrow.Rule.Slice.PartMut.{put_mid}
 use Rattle.encoding_definitions.specs.Prefixes.{WritesPrefix}
 use Rattle.encoding_definitions.proofs.PrefixesLemmas.{WritesPrefix-nil, WritesPrefix-same, WritesPrefix_after, written_is, written_prefix}
 use Rattle.encoding_kernels.specs.Utf8Output.{ConvertsPrefix, SpillsBmp, WritesBmp, AreBmpScalars, Spills, StoresBlock}
-use Rattle.encoding_kernels.proofs.OverwriteLemmas.{due_none, due_paid, plain_walked, plain_written, plain_prefix, utf8_plain, exact_spills}
+use Rattle.encoding_kernels.proofs.OverwriteLemmas.{due_none, due_paid, plain_walked, plain_written, plain_prefix, plain_then, utf8_plain, exact_spills, written_left}
 use Rattle.std.proofs.lemmas.Simd.{Each1-from_get_or}
 use Rattle.std.proofs.lemmas.Str.{encodes-IsAscii}
 use Rattle.std.specs.Simd.Lanes.{put_chunk, Each1}
@@ -239,6 +239,20 @@ module _ (us : List ℕ) (units : AreCodeUnits us) where
       let rest : AreCodeUnits (drop read us) = λ k. let same = get_or-drop read us k 0 in omega (arith, same, units (read + k)) in
       converts_more w (plain_prefix (subst AreCodeUnits (sym (take_rest us read)) rest) v) (written_prefix _ _ _ _ (plain_written v)) v.within
 
+  -- the same of units that are what is left
+  pub converts_more_from : {rest old new sub : List ℕ} {read written n m : ℕ} → rest ≡ take (length us - read) (drop read us)
+      → Converts us old new read written → ConvertsPrefix rest (take (length new - written) (drop written new)) sub n m
+      → Converts us old (put_mid written (length new - written) new sub) (read + n) (written + m)
+  converts_more_from {rest} {old} {new} {sub} {read} {written} {n} {m} e w v =
+      let whole = subst (λ xs. ConvertsPrefix xs (take (length new - written) (drop written new)) sub n m) e v in
+      converts_more w whole.prefix whole.unchanged_after whole.within
+
+  pub converts_more_bmp_from : {rest old new sub : List ℕ} {read written n m : ℕ} → rest ≡ take (length us - read) (drop read us)
+      → Converts us old new read written → WritesBmp rest (take (length new - written) (drop written new)) sub n m
+      → Converts us old (put_mid written (length new - written) new sub) (read + n) (written + m)
+  converts_more_bmp_from {rest} {old} {new} {sub} {read} {written} {n} {m} e w v =
+      converts_more_bmp w (subst (λ xs. WritesBmp xs (take (length new - written) (drop written new)) sub n m) e v)
+
   -- nothing is spilled
   pub converts_due : {old new : List ℕ} {read written : ℕ} → SpillsBmp us old new read written 0 → Converts us old new read written
   converts_due {old} {new} {read} {written} p = converts_bmp (record { within = p.within; plain = p.plain; written = due_none us old new read written p })
@@ -258,6 +272,15 @@ module _ (us : List ℕ) (units : AreCodeUnits us) where
             (ap (λ xs. xs ++ take m sub) (sym (utf8_plain (take read us))) ∙ more.written);
       }
 
+module _ (us : List ℕ) (units : AreCodeUnits us) where
+  -- the same of units that are what is left
+  pub converts_paid_from : {rest old new sub : List ℕ} {read written s n m : ℕ} → rest ≡ take (length us - read) (drop read us)
+      → SpillsBmp us old new read written s → s ≤ m → ConvertsPrefix rest (take (length new - written) (drop written new)) sub n m
+      → Converts us old (put_mid written (length new - written) new sub) (read + n) (written + m)
+  converts_paid_from {rest} {old} {new} {sub} {read} {written} {s} {n} {m} e p due v =
+      let whole = subst (λ xs. ConvertsPrefix xs (take (length new - written) (drop written new)) sub n m) e v in
+      converts_paid us units p due whole.prefix whole.unchanged_after whole.within
+
 module _ (us old : List ℕ) (at : ℕ) (long : length us ≡ 16) where
   plain_all : ((k : ℕ) → k < 16 → (0xD800 ≤ get_or us k 0) × (get_or us k 0 ≤ 0xDFFF) → ⊥) → AreBmpScalars us
   plain_all h k r = elim (cases_lt k 16) [ inl l ↦ h k l r | inr l ↦ omega (arith, r.0, get_or_past us k 0 (omega (arith, long))) ]
@@ -276,6 +299,22 @@ module _ (us old : List ℕ) (at : ℕ) (long : length us ≡ 16) where
       ∙ put_is at 16 old us long room ∙ ap (λ xs. take at old ++ (xs ++ drop (at + 16) old)) (sym ascii) in
       mixed_block (λ k l r. omega (arith, h k l, r.0)) (omega arith, omega arith) (omega arith)
       (exact_spills old _ (encode_utf8_all us) at 16 (ap length ascii ∙ long) room put)
+
+-- nothing is spilled, and none is a surrogate
+pub bmp_of_due : {us old new : List ℕ} {read written : ℕ} → SpillsBmp us old new read written 0 → WritesBmp us old new read written
+bmp_of_due {us} {old} {new} {read} {written} p = record { within = p.within; plain = p.plain; written = due_none us old new read written p }
+
+-- n more units, none of them a surrogate
+pub bmp_more : {us rest old new sub : List ℕ} {read written n m : ℕ} → rest ≡ take (length us - read) (drop read us) → WritesBmp us old new read written
+    → WritesBmp rest (take (length new - written) (drop written new)) sub n m
+    → WritesBmp us old (put_mid written (length new - written) new sub) (read + n) (written + m)
+bmp_more {us} {rest} {old} {new} {sub} {read} {written} {n} {m} e w v =
+    let next = subst (λ xs. WritesBmp xs (take (length new - written) (drop written new)) sub n m) e v in
+    record {
+      within = omega (arith, w.within, next.within, length-take (length us - read) (drop read us));
+      plain = plain_then us read n w.plain (subst (λ xs. AreBmpScalars (take n xs)) (take_rest us read) next.plain);
+      written = written_left us read n w.written next.written;
+    }
 
 -- nothing is converted
 pub writes_none : (us old : List ℕ) → WritesBmp us old old 0 0

@@ -3,5 +3,6 @@
 pub mod bytes;
 pub mod count;
 pub mod length;
+pub mod source;
 pub mod unpaired;
 pub mod validate;

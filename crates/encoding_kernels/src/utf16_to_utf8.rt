@@ -2,6 +2,7 @@
 //! sixteen, which later units overwrite, since each unit has at least one byte. `text` has the calls, and loops over the
 //! `kinds` of blocks; each kind has a module.
 
+pub mod bytes;
 mod kinds;
 mod mixed;
 mod pairs;

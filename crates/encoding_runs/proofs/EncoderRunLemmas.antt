@@ -20,7 +20,7 @@ use Rattle.encoding_runs.specs.Calls.{Call, IsChain, output_of}
 use Rattle.encoding_runs.proofs.TurnLemmas.{same_call}
 use Rattle.encoding_runs.proofs.CompletionLemmas.{GoesOn, marked, EachGetsOn, turns_complete}
 use Rattle.encoding_runs.proofs.EncoderChainLemmas.{chain_encodes}
-use Rattle.encoding_text.proofs.WholePrefixesLemmas.{written_within}
+use Rattle.encoding_kernels.proofs.UpToSurrogateLemmas.{written_within}
 
 -- ---- what a run writes
 pub run_encodes : (surrogate src : List ℕ) (turns : List Turn) (old new : List ℕ) (outcome : EncodeOutcome) (after : List ℕ)

@@ -1,6 +1,5 @@
 pub mod Utf16ByteLemmas
 pub mod Utf16PartLemmas
-pub mod Utf16AsciiLemmas
 pub mod Utf16StepLemmas
 pub mod Utf16WindowLemmas
 pub mod Utf16WriteLemmas

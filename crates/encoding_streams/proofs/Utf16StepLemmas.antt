@@ -1,6 +1,6 @@
 -- Steps of a call of the UTF-16 decoder: how one continues another, what a block of code units is, and what the first
 -- bytes after the pending ones are.
-use Rattle.std.proofs.Common.{◌≡◌, ◌≢◌, ℕ, ◌+◌, ◌-◌, ◌*◌, ◌<◌, ◌≤◌, inl, inr, Bool, true, List, [], ◌∷◌, ◌++◌, length, take, drop, refl, sym, ap, ◌∙◌, arith, subst, append_assoc, take-add}
+use Rattle.std.proofs.Common.{◌≡◌, ◌≢◌, ℕ, ◌+◌, ◌-◌, ◌*◌, ◌<◌, ◌≤◌, inl, inr, Bool, true, List, [], ◌∷◌, ◌++◌, length, take, drop, refl, sym, ap, ◌∙◌, arith, subst, append_assoc, take-add, encode_utf8}
 use Rattle.std.specs.Char.Escape.{encode_utf16}
 use Rattle.std.specs.List.{flat_map}
 use Rattle.std.specs.Str.{all_scalars}
@@ -318,3 +318,16 @@ units_spelled order src us old new bytes count valid twice e w l =
     ap (utf16_bytes order) prefix ∙ sym (take-utf16_bytes order us valid (omega (arith, w.count, less)))
     ∙ ap (take (2 * valid)) (e ∙ ap (λ n. take n src) twice)
     ∙ take-take (2 * valid) (2 * count) src (omega (arith, less)) ∙ ap (λ n. take (2 * n) src) (sym (ap length prefix ∙ long))
+
+-- characters that take one code unit each are read and written
+pub scalars_advance : (order : ByteOrder) (src : List ℕ) {old new : List ℕ} {read written : ℕ} → read ≤ length src
+    → (scalars : List ℕ) × (all_scalars scalars ≡ true) × (read ≡ 2 * length scalars)
+    × (utf16_bytes order (flat_map encode_utf16 scalars) ≡ take read src) × WritesPrefix old new written (flat_map encode_utf8 scalars)
+    → Advances order encode_utf8 [] src old new read written []
+scalars_advance order src within (scalars, are, count, spelled, writes) = record {
+  scalars = scalars;
+  are_scalars = are;
+  within = within;
+  spelled = sym spelled ∙ sym (append-nil (utf16_bytes order (flat_map encode_utf16 scalars)));
+  writes = writes;
+}

@@ -210,16 +210,6 @@ other_after xs old i j n l m stops =
       get_or-drop i xs n 0,
     )
 
--- if a prefix is written to the first `end` items, it is written
-pub written_within : {A : Type 0} (old sub : List A) (end n : ℕ) (out : List A) → WritesPrefix (take end old) sub n out
-    → WritesPrefix old (sub ++ drop end old) n out
-written_within old sub end n out w = record {
-  count = w.count;
-  fits = omega (arith, w.fits, length-take end old);
-  placed = ap (λ xs. xs ++ drop end old) w.placed ∙ append_assoc out (drop n (take end old)) (drop end old)
-      ∙ ap (λ xs. out ++ xs) (sym (drop-append-le n (take end old) (drop end old) w.fits) ∙ ap (drop n) (take-append-drop end old));
-}
-
 -- no escape or shift byte, and ASCII
 abbrev pub IsOwn : ℕ → Type 0
 IsOwn b = (b < 0x80) × (b ≢ 0x1B) × (b ≢ 0x0E) × (b ≢ 0x0F)

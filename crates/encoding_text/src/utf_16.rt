@@ -1,12 +1,17 @@
 //! UTF-16BE and UTF-16LE: Unicode Standard, section 3.10, and Encoding Standard, sections 14.2 to 14.4. Each code unit is
 //! two bytes. A call leaves the rest of `dst` unchanged.
 
-ghost use Rattle.std.specs.Prelude.{◌≡◌, ℕ, ◌+◌, ◌*◌, ◌/◌, ◌++◌, ◌<◌, ◌≤◌, List, length, min, take, drop};
-ghost use Rattle.std.specs.Str.{IsAscii};
+ghost use Rattle.std.specs.Prelude.{◌≡◌, ℕ, ◌+◌, ◌*◌, ◌/◌, ◌++◌, ◌<◌, ◌≤◌, true, List, length, min, take, drop, encode_utf8};
+ghost use Rattle.std.specs.Char.{IsScalar};
+ghost use Rattle.std.specs.Char.Escape.{encode_utf16};
+ghost use Rattle.std.specs.List.{flat_map};
+ghost use Rattle.std.specs.Str.{IsAscii, all_scalars};
 ghost use Rattle.encoding_definitions.specs.Prefixes.{WritesPrefix};
 ghost use Rattle.encoding_text.specs.Utf16Bytes.{unit_bytes, utf16_bytes};
 
 use encoding_kernels::utf16::bytes::copy_ascii_units;
+use encoding_kernels::utf16::source::UnitBytes;
+use encoding_kernels::utf16_to_utf8::bytes::convert_up_to_surrogate;
 
 /// The order of the two bytes of a code unit.
 #[derive(Clone, Copy, Debug, PartialEq, Eq, Drop)]
@@ -69,6 +74,34 @@ pub fn copy_utf16_bytes_to_ascii(order: ByteOrder, src: &[u8], dst: &mut [u8]) -
     match order {
         ByteOrder::LittleEndian => copy_ascii_units(false, src, fitting),
         ByteOrder::BigEndian => copy_ascii_units(true, src, fitting),
+    }
+}
+
+/// Converts UTF-16LE or UTF-16BE to UTF-8, up to the first character that doesn't fit into `dst`, the first surrogate, paired or
+/// not, or the last byte of an odd number. Returns how many bytes it read and how many bytes it wrote.
+pub fn convert_utf16_bytes_to_utf8_up_to_surrogate(
+    order: ByteOrder,
+    src: &[u8],
+    dst: &mut [u8],
+) -> (usize, usize)
+    ensures read { result.0 ≤ length src.now }
+    ensures converted { (scalars : List ℕ) × (all_scalars scalars ≡ true)
+        × (result.0 ≡ 2 * length scalars)
+        × (utf16_bytes order (flat_map encode_utf16 scalars) ≡ take result.0 src.now)
+        × WritesPrefix dst.old dst.new result.1 (flat_map encode_utf8 scalars) }
+    ensures stops { (scalar : ℕ) (rest : List ℕ) → IsScalar scalar → scalar < 0x10000
+        → drop result.0 src.now ≡ unit_bytes order scalar ++ rest
+        → length dst.old < result.1 + length (encode_utf8 scalar) }
+{
+    match order {
+        ByteOrder::LittleEndian => {
+            let (units, written) = convert_up_to_surrogate(UnitBytes::<false> { src }, dst);
+            (2 * units, written)
+        }
+        ByteOrder::BigEndian => {
+            let (units, written) = convert_up_to_surrogate(UnitBytes::<true> { src }, dst);
+            (2 * units, written)
+        }
     }
 }
 

@@ -55,6 +55,8 @@ mod surrogate_rows;
 #[cfg(test)]
 mod texts;
 #[cfg(test)]
+mod up_to_surrogate_rows;
+#[cfg(test)]
 mod utf16_byte_rows;
 #[cfg(test)]
 mod utf16_rows;

@@ -1,18 +1,28 @@
 //! UTF-16LE and UTF-16BE, whose code units are two bytes each, by vectors of sixteen code units. `big` says that the more
 //! significant byte comes first.
 
-ghost use Rattle.std.specs.Prelude.{◌≡◌, ◌+◌, ◌*◌, ◌<◌, ◌≤◌, ◌++◌, IsTrue, length, take, drop, slice_index};
+ghost use Rattle.std.specs.Prelude.{◌≡◌, ℕ, List, ◌+◌, ◌*◌, ◌<◌, ◌≤◌, ◌++◌, IsTrue, length, take, drop, slice_index};
 ghost use Rattle.encoding_definitions.specs.Prefixes.{WritesPrefix};
+ghost use Rattle.encoding_definitions.specs.Utf16.{AreCodeUnits};
 ghost use Rattle.encoding_kernels.specs.Scans.{AllBelow, BelowUpTo};
 ghost use Rattle.encoding_kernels.specs.UnitBytes.{units_of};
 
-use crate::simd::width::{BASIC_LATIN_END, HALF_BLOCK, STRIDE};
+use crate::simd::width::{BASIC_LATIN_END, STRIDE, UNIT_BLOCK};
 use crate::utf16_to_utf8::two_byte::are_ascii;
 use std::simd::prelude::*;
 
+/// Returns how many code units there are.
+#[inline(always)]
+pub(super) fn count_units(big: bool, src: &[u8]) -> usize
+    ensures count { result ≡ length (units_of big src.now) }
+    ensures code_units { AreCodeUnits (units_of big src.now) }
+{
+    src.len() / 2
+}
+
 /// Returns the sixteen code units from index `at` on.
 #[inline(always)]
-fn sixteen_units(big: bool, src: &[u8], at: usize) -> u16x16
+pub(super) fn sixteen_units(big: bool, src: &[u8], at: usize) -> u16x16
     requires { 2 * at + 32 ≤ length src.now }
     ensures { result ≡ take 16 (drop at (units_of big src.now)) }
 {
@@ -25,7 +35,7 @@ fn sixteen_units(big: bool, src: &[u8], at: usize) -> u16x16
 
 /// Returns the code unit at index `at`.
 #[inline(always)]
-fn unit_at(big: bool, src: &[u8], at: usize) -> u16
+pub(super) fn unit_at(big: bool, src: &[u8], at: usize) -> u16
     requires { 2 * at + 2 ≤ length src.now }
     ensures { result ≡ slice_index (units_of big src.now) at }
 {
@@ -37,6 +47,21 @@ fn unit_at(big: bool, src: &[u8], at: usize) -> u16
     first + 0x100 * second
 }
 
+/// Returns the first sixteen code units, followed by zeros if there are fewer.
+#[inline(always)]
+pub(super) fn first_sixteen(big: bool, src: &[u8]) -> u16x16
+    ensures { (length result ≡ 16) × (take (length (take 16 (units_of big src.now))) result
+        ≡ take 16 (units_of big src.now)) }
+{
+    let count = src.len() / 2;
+    if count >= STRIDE {
+        return sixteen_units(big, src, 0);
+    }
+    let mut bytes = [0; 2 * STRIDE];
+    bytes[..2 * count].copy_from_slice(&src[..2 * count]);
+    sixteen_units(big, &bytes, 0)
+}
+
 /// Returns whether the sixteen code units from index `at` on are ASCII.
 #[inline(always)]
 fn are_sixteen_ascii(big: bool, src: &[u8], at: usize) -> bool
@@ -44,6 +69,19 @@ fn are_sixteen_ascii(big: bool, src: &[u8], at: usize) -> bool
     ensures { IsTrue result → AllBelow 0x80 (units_of big src.now) at 16 }
 {
     are_ascii(sixteen_units(big, src, at))
+}
+
+/// Returns whether the 64 code units from index `at` on are ASCII.
+#[inline(always)]
+fn are_64_ascii(big: bool, src: &[u8], at: usize) -> bool
+    requires { 2 * at + 128 ≤ length src.now }
+    ensures { IsTrue result → AllBelow 0x80 (units_of big src.now) at 64 }
+{
+    let first = sixteen_units(big, src, at);
+    let second = sixteen_units(big, src, at + STRIDE);
+    let third = sixteen_units(big, src, at + 2 * STRIDE);
+    let fourth = sixteen_units(big, src, at + 3 * STRIDE);
+    are_ascii((first | second) | (third | fourth))
 }
 
 /// Copies the sixteen code units from index `at` on to the same index, each as a byte.
@@ -58,6 +96,21 @@ fn pack_sixteen(big: bool, src: &[u8], dst: &mut [u8], at: usize)
     lower.cast::<u8>().copy_to_slice(&mut dst[at..]);
 }
 
+/// Copies the 64 code units from index `at` on to the same index, each as a byte.
+#[inline(always)]
+fn pack_64(big: bool, src: &[u8], dst: &mut [u8], at: usize)
+    requires within { (2 * at + 128 ≤ length src.now) × (at + 64 ≤ length dst.old) }
+    requires ascii { AllBelow 0x80 (units_of big src.now) at 64 }
+    ensures { (before : List ℕ)
+        → WritesPrefix before dst.old at (take at (units_of big src.now))
+        → WritesPrefix before dst.new (at + 64) (take (at + 64) (units_of big src.now)) }
+{
+    pack_sixteen(big, src, dst, at);
+    pack_sixteen(big, src, dst, at + STRIDE);
+    pack_sixteen(big, src, dst, at + 2 * STRIDE);
+    pack_sixteen(big, src, dst, at + 3 * STRIDE);
+}
+
 /// Copies the longest ASCII prefix of as many code units as `dst` holds, each as a byte, and returns its length.
 #[inline(always)]
 pub fn copy_ascii_units(big: bool, src: &[u8], dst: &mut [u8]) -> usize
@@ -68,13 +121,9 @@ pub fn copy_ascii_units(big: bool, src: &[u8], dst: &mut [u8]) -> usize
     ensures copied { WritesPrefix dst.old dst.new result (take result (units_of big src.now)) }
 {
     let mut at = 0;
-    while dst.len() - at >= HALF_BLOCK
-        && are_sixteen_ascii(big, src, at)
-        && are_sixteen_ascii(big, src, at + STRIDE)
-    {
-        pack_sixteen(big, src, dst, at);
-        pack_sixteen(big, src, dst, at + STRIDE);
-        at += HALF_BLOCK;
+    while dst.len() - at >= UNIT_BLOCK && are_64_ascii(big, src, at) {
+        pack_64(big, src, dst, at);
+        at += UNIT_BLOCK;
     }
     while dst.len() - at >= STRIDE && are_sixteen_ascii(big, src, at) {
         pack_sixteen(big, src, dst, at);

@@ -170,6 +170,21 @@ pub(super) fn write_mixed(units: u16x16, zeros: usize, dst: &mut [u8]) -> usize
     written
 }
 
+/// Writes the UTF-8 of sixteen code units, and returns its length. The bytes after it are read before the stores and written
+/// back.
+#[inline(always)]
+pub(super) fn write_sixteen(units: u16x16, dst: &mut [u8], at: usize) -> usize
+    requires dst_length { (length units ≡ 16) × (at + 64 ≤ length dst.old) }
+    ensures length_bound { (16 ≤ result) × (result ≤ 48) }
+    ensures written { Spills dst.old dst.new at result 0 (encode_utf8_all units) }
+{
+    let end = at + length_of_sixteen(units);
+    let following = u8x16::from_slice(&dst[end..]);
+    let written = store_mixed(units, dst, at);
+    following.copy_to_slice(&mut dst[end..]);
+    written
+}
+
 /// Returns the first `first` of sixteen code units, followed by zeros.
 #[inline(always)]
 pub(super) fn with_zeros(units: u16x16, first: usize) -> u16x16

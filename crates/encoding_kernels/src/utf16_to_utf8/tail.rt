@@ -3,7 +3,7 @@
 
 ghost use Rattle.std.specs.Prelude.{◌≡◌, ◌+◌, ◌<◌, ◌≤◌, length, take, drop};
 ghost use Rattle.encoding_definitions.specs.Prefixes.{WritesPrefix};
-ghost use Rattle.encoding_definitions.specs.Utf16.{IsUtf8OfPrefix};
+ghost use Rattle.encoding_definitions.specs.Utf16.{AreCodeUnits, IsUtf8OfPrefix};
 ghost use Rattle.encoding_kernels.specs.Utf8Output.{ConvertsPrefix, WritesBmp};
 ghost use Rattle.encoding_definitions.specs.FirstScalar.{IsFirstScalar};
 
@@ -14,6 +14,7 @@ use crate::scalar::{
 };
 use crate::simd::copy::copy_prefix;
 use crate::simd::width::STRIDE;
+use crate::utf16::source::CodeUnits;
 use std::simd::prelude::*;
 
 /// The number of bytes that sixteen code units may change, with those that are written back.
@@ -21,16 +22,16 @@ const ROOM: usize = 80;
 
 /// Returns the scalar value that is written for the first part of the code units from index `at` on.
 #[inline(always)]
-pub fn scalar_at(src: &[u16], at: usize) -> u32
-    requires { at < length src.now }
-    ensures { IsFirstScalar (drop at src.now) result }
+pub fn scalar_at<S: CodeUnits>(src: S, at: usize) -> u32
+    requires { at < length (S.units src) }
+    ensures { IsFirstScalar (drop at (S.units src)) result }
 {
-    let unit = src[at];
+    let unit = src.unit_at(at);
     if !is_surrogate(unit) {
         return u32::from(unit);
     }
-    if is_high_surrogate(unit) && at + 1 < src.len() {
-        let next = src[at + 1];
+    if is_high_surrogate(unit) && src.count() - at > 1 {
+        let next = src.unit_at(at + 1);
         if is_low_surrogate(next) {
             return pair_scalar(unit, next);
         }
@@ -38,29 +39,17 @@ pub fn scalar_at(src: &[u16], at: usize) -> u32
     REPLACEMENT_CHARACTER
 }
 
-/// Returns the first sixteen code units, followed by zeros if there are fewer.
-#[inline(always)]
-fn first_units(src: &[u16]) -> u16x16
-    ensures { (length result ≡ 16) × (take (length (take 16 src.now)) result ≡ take 16 src.now) }
-{
-    if src.len() >= STRIDE {
-        return u16x16::from_slice(src);
-    }
-    let mut units = [0; STRIDE];
-    units[..src.len()].copy_from_slice(src);
-    u16x16::from_array(units)
-}
-
 /// Converts those of the first sixteen code units that precede a surrogate, if they fit. Near the end of `dst` they are
 /// converted apart from it, so that nothing else is stored there.
 #[tactic(auto, using(crate::proofs::Utf16ToUtf8Lemmas::writes_none))]
 #[inline(always)]
-pub(super) fn convert_first_sixteen(src: &[u16], dst: &mut [u8]) -> (usize, usize)
-    ensures written { WritesBmp src.now dst.old dst.new result.0 result.1 }
+pub(super) fn convert_first_sixteen<S: CodeUnits>(src: S, dst: &mut [u8]) -> (usize, usize)
+    ensures written { WritesBmp (S.units src) dst.old dst.new result.0 result.1 }
     ensures length_bound { result.0 ≤ result.1 }
+    ensures code_units { AreCodeUnits (S.units src) }
 {
-    let units = first_units(src);
-    let first = non_surrogate_prefix(units).min(src.len());
+    let units = src.first_sixteen();
+    let first = non_surrogate_prefix(units).min(src.count());
     let lanes = with_zeros(units, first);
     if dst.len() >= ROOM {
         return (first, write_mixed(lanes, STRIDE - first, dst));
@@ -77,11 +66,11 @@ pub(super) fn convert_first_sixteen(src: &[u16], dst: &mut [u8]) -> (usize, usiz
 
 /// Converts those of the first sixteen code units that precede a surrogate, or the first character alone.
 #[inline(always)]
-fn convert_some(src: &[u16], dst: &mut [u8]) -> (usize, usize)
-    requires { (0 < length src.now) × (4 ≤ length dst.old) }
-    ensures prefix { IsUtf8OfPrefix src.now result.0 (take result.1 dst.new) }
+fn convert_some<S: CodeUnits>(src: S, dst: &mut [u8]) -> (usize, usize)
+    requires { (0 < length (S.units src)) × (4 ≤ length dst.old) }
+    ensures prefix { IsUtf8OfPrefix (S.units src) result.0 (take result.1 dst.new) }
     ensures unchanged_after { WritesPrefix dst.old dst.new result.1 (take result.1 dst.new) }
-    ensures within { result.0 ≤ length src.now }
+    ensures within { result.0 ≤ length (S.units src) }
     ensures progress { (0 < result.0) × (result.0 ≤ result.1) }
 {
     let (first, written) = convert_first_sixteen(src, dst);
@@ -93,15 +82,16 @@ fn convert_some(src: &[u16], dst: &mut [u8]) -> (usize, usize)
 }
 
 /// Converts the first characters of `src`, until at least sixteen bytes are written.
-pub(super) fn convert_spilled(src: &[u16], dst: &mut [u8]) -> (usize, usize)
-    requires { (16 ≤ length src.now) × (48 ≤ length dst.old) }
-    ensures converted { ConvertsPrefix src.now dst.old dst.new result.0 result.1 }
+pub(super) fn convert_spilled<S: CodeUnits>(src: S, dst: &mut [u8]) -> (usize, usize)
+    requires lengths { (16 ≤ length (S.units src)) × (48 ≤ length dst.old) }
+    requires code_units { AreCodeUnits (S.units src) }
+    ensures converted { ConvertsPrefix (S.units src) dst.old dst.new result.0 result.1 }
     ensures length_bound { 16 ≤ result.1 }
 {
     let mut read = 0;
     let mut written = 0;
     while written < SPILL {
-        let (units, bytes) = convert_some(&src[read..], &mut dst[written..]);
+        let (units, bytes) = convert_some(src.skip(read), &mut dst[written..]);
         read += units;
         written += bytes;
     }

@@ -1,10 +1,10 @@
 //! UTF-8 of code units by blocks of sixteen: the calls for a whole text, and the loops over runs of one kind of blocks. A
 //! conversion of blocks returns how many code units it read and how many bytes it wrote.
 
-ghost use Rattle.std.specs.Prelude.{◌↔◌, ◌+◌, ◌*◌, ◌<◌, ◌≤◌, length, take, IsTrue};
+ghost use Rattle.std.specs.Prelude.{◌≡◌, ◌↔◌, ◌+◌, ◌*◌, ◌<◌, ◌≤◌, length, take, IsTrue};
 ghost use Rattle.encoding_definitions.specs.Prefixes.{WritesPrefix};
 ghost use Rattle.encoding_definitions.specs.Utf16.{IsUtf8OfPrefix};
-ghost use Rattle.encoding_kernels.specs.Utf8Output.{ConvertsDue, ConvertsPrefix};
+ghost use Rattle.encoding_kernels.specs.Utf8Output.{ConvertsDue, ConvertsPrefix, WritesBmp};
 
 use super::kinds::{Ascii, Mixed, ThreeByte, TwoByte, convert_run};
 use super::mixed::SPILL;
@@ -14,22 +14,29 @@ use crate::scalar::is_surrogate;
 use crate::simd::units::are_units_below;
 use crate::simd::width::{BASIC_LATIN_END, HALF_STRIDE, STRIDE};
 use crate::tuning::{ASCII_RUN, MIXED_RUN, TWO_BYTE_RUN};
+use crate::utf16::source::CodeUnits;
 
 /// Converts blocks from the start of `src`, until many in a row are ASCII or have three bytes for each unit, or one has
 /// a surrogate, or the end is near. `due` and the last number returned are as for `convert_run`.
 #[inline(always)]
-fn convert_any_blocks(src: &[u16], dst: &mut [u8], due: usize) -> (usize, usize, usize)
-    requires dst_length { 3 * length src.now ≤ length dst.old }
-    requires due { (due ≤ 16) × (0 < due → 16 ≤ length src.now) }
-    ensures { ConvertsDue src.now dst.old dst.new due result.0 result.1 result.2 }
+fn convert_any_blocks<S: CodeUnits, const RESTORES: bool>(
+    src: S,
+    dst: &mut [u8],
+    due: usize,
+) -> (usize, usize, usize)
+    requires dst_length { 3 * length (S.units src) ≤ length dst.old }
+    requires due { (due ≤ 16) × (0 < due → 16 ≤ length (S.units src)) }
+    ensures converted { ConvertsDue (S.units src) dst.old dst.new due
+        result.0 result.1 result.2 }
+    ensures restored { IsTrue RESTORES → due ≡ 0 → result.2 ≡ 0 }
 {
     let mut read = 0;
     let mut written = 0;
     let mut spilled = due;
-    while src.len() - read >= STRIDE + SPILL {
+    while src.count() - read >= STRIDE + SPILL {
         let (units, bytes, left) = convert_run(
             &Ascii,
-            &src[read..],
+            src.skip(read),
             &mut dst[written..],
             spilled,
             ASCII_RUN,
@@ -41,8 +48,8 @@ fn convert_any_blocks(src: &[u16], dst: &mut [u8], due: usize) -> (usize, usize,
             break;
         }
         let (units, bytes, left) = convert_run(
-            &TwoByte,
-            &src[read..],
+            &TwoByte::<RESTORES>,
+            src.skip(read),
             &mut dst[written..],
             spilled,
             TWO_BYTE_RUN,
@@ -52,8 +59,8 @@ fn convert_any_blocks(src: &[u16], dst: &mut [u8], due: usize) -> (usize, usize,
         spilled = left;
         if units == 0 {
             let (units, bytes, left) = convert_run(
-                &Mixed,
-                &src[read..],
+                &Mixed::<RESTORES>,
+                src.skip(read),
                 &mut dst[written..],
                 spilled,
                 MIXED_RUN,
@@ -71,34 +78,49 @@ fn convert_any_blocks(src: &[u16], dst: &mut [u8], due: usize) -> (usize, usize,
 
 /// Converts blocks of code units from U+0800 on from the start of `src`.
 #[inline(never)]
-fn convert_three_byte_blocks(src: &[u16], dst: &mut [u8], due: usize) -> (usize, usize, usize)
-    requires dst_length { 3 * length src.now ≤ length dst.old }
-    requires due { (due ≤ 16) × (0 < due → 16 ≤ length src.now) }
-    ensures { ConvertsDue src.now dst.old dst.new due result.0 result.1 result.2 }
+fn convert_three_byte_blocks<S: CodeUnits>(
+    src: S,
+    dst: &mut [u8],
+    due: usize,
+) -> (usize, usize, usize)
+    requires dst_length { 3 * length (S.units src) ≤ length dst.old }
+    requires due { (due ≤ 16) × (0 < due → 16 ≤ length (S.units src)) }
+    ensures converted { ConvertsDue (S.units src) dst.old dst.new due
+        result.0 result.1 result.2 }
+    ensures restored { due ≡ 0 → result.2 ≡ 0 }
 {
-    convert_run(&ThreeByte, src, dst, due, src.len())
+    convert_run(&ThreeByte, src, dst, due, src.count())
 }
 
 /// Converts blocks from the start of `src`, until many in a row are ASCII, or one has a surrogate, or the end is near.
 /// Also returns how many bytes after its own are still to be overwritten.
 #[inline(always)]
-fn convert_due_blocks(src: &[u16], dst: &mut [u8]) -> (usize, usize, usize)
-    requires dst_length { 3 * length src.now ≤ length dst.old }
-    ensures { ConvertsDue src.now dst.old dst.new 0 result.0 result.1 result.2 }
+fn convert_due_blocks<S: CodeUnits, const RESTORES: bool>(
+    src: S,
+    dst: &mut [u8],
+) -> (usize, usize, usize)
+    requires dst_length { 3 * length (S.units src) ≤ length dst.old }
+    ensures converted { ConvertsDue (S.units src) dst.old dst.new 0
+        result.0 result.1 result.2 }
+    ensures restored { IsTrue RESTORES → result.2 ≡ 0 }
 {
     let mut read = 0;
     let mut written = 0;
     let mut spilled = 0;
-    while src.len() - read >= STRIDE + SPILL {
-        let (units, bytes, left) = convert_any_blocks(&src[read..], &mut dst[written..], spilled);
+    while src.count() - read >= STRIDE + SPILL {
+        let (units, bytes, left) = convert_any_blocks::<S, RESTORES>(
+            src.skip(read),
+            &mut dst[written..],
+            spilled,
+        );
         read += units;
         written += bytes;
         spilled = left;
-        if spilled == 0 {
+        if !RESTORES && spilled == 0 {
             break;
         }
         let (units, bytes, left) = convert_three_byte_blocks(
-            &src[read..],
+            src.skip(read),
             &mut dst[written..],
             spilled,
         );
@@ -114,15 +136,20 @@ fn convert_due_blocks(src: &[u16], dst: &mut [u8]) -> (usize, usize, usize)
 
 /// Converts blocks of sixteen code units from the start of `src`, and what these leave to overwrite.
 #[inline(always)]
-fn convert_dense_blocks(src: &[u16], dst: &mut [u8]) -> (usize, usize)
-    ensures { ConvertsPrefix src.now dst.old dst.new result.0 result.1 }
+fn convert_dense_blocks<S: CodeUnits, const RESTORES: bool>(
+    src: S,
+    dst: &mut [u8],
+) -> (usize, usize)
+    ensures converted { ConvertsPrefix (S.units src) dst.old dst.new result.0 result.1 }
+    ensures restored { IsTrue RESTORES
+        → WritesBmp (S.units src) dst.old dst.new result.0 result.1 }
 {
-    let end = src.len().min(dst.len() / 3);
-    let (read, written, spilled) = convert_due_blocks(&src[..end], dst);
+    let end = src.count().min(dst.len() / 3);
+    let (read, written, spilled) = convert_due_blocks::<S, RESTORES>(src.first(end), dst);
     if spilled == 0 {
         return (read, written);
     }
-    let (more, extra) = convert_spilled(&src[read..], &mut dst[written..]);
+    let (more, extra) = convert_spilled(src.skip(read), &mut dst[written..]);
     (read + more, written + extra)
 }
 
@@ -136,23 +163,28 @@ fn begins_block(unit: u16) -> bool
 
 /// Converts blocks of code units from the start of `src`, until ASCII or a surrogate is next. The last 31 units may
 /// be ASCII. Returns how many code units it read and how many bytes it wrote. The rest of `dst` is unchanged.
-pub fn convert_blocks(src: &[u16], dst: &mut [u8]) -> (usize, usize)
-    ensures prefix { IsUtf8OfPrefix src.now result.0 (take result.1 dst.new) }
+pub fn convert_blocks<S: CodeUnits, const RESTORES: bool>(src: S, dst: &mut [u8]) -> (usize, usize)
+    ensures prefix { IsUtf8OfPrefix (S.units src) result.0 (take result.1 dst.new) }
     ensures unchanged_after { WritesPrefix dst.old dst.new result.1 (take result.1 dst.new) }
-    ensures within { result.0 ≤ length src.now }
+    ensures within { result.0 ≤ length (S.units src) }
+    ensures restored { IsTrue RESTORES
+        → WritesBmp (S.units src) dst.old dst.new result.0 result.1 }
 {
     let mut read = 0;
     let mut written = 0;
-    while src.len() - read >= HALF_STRIDE
-        && (src.len() - read < STRIDE + SPILL || begins_block(src[read]))
+    while src.count() - read >= HALF_STRIDE
+        && (src.count() - read < STRIDE + SPILL || begins_block(src.unit_at(read)))
     {
-        let (dense, many) = convert_dense_blocks(&src[read..], &mut dst[written..]);
+        let (dense, many) = convert_dense_blocks::<S, RESTORES>(
+            src.skip(read),
+            &mut dst[written..],
+        );
         read += dense;
         written += many;
-        if src.len() - read >= STRIDE + SPILL && !begins_block(src[read]) {
+        if src.count() - read >= STRIDE + SPILL && !begins_block(src.unit_at(read)) {
             break;
         }
-        let (first, some) = convert_first_sixteen(&src[read..], &mut dst[written..]);
+        let (first, some) = convert_first_sixteen(src.skip(read), &mut dst[written..]);
         read += first;
         written += some;
         if first == 0 {

@@ -89,3 +89,30 @@ pub(super) fn store_two_byte(units: u16x16, dst: &mut [u8], at: usize) -> usize
     store_two(dst, at, bytes, count, other, more);
     count + more
 }
+
+/// Returns the length of the UTF-8 of sixteen code units below U+0800.
+#[inline(always)]
+fn length_of_two_byte(units: u16x16) -> usize
+    requires short { (k : ℕ) → k < 16 → slice_index units k < 0x800 }
+    ensures count { result ≡ length (encode_utf8_all units) }
+    ensures bound { result ≤ 32 }
+{
+    let (_, count, _, more) = encode_two_byte(units);
+    count + more
+}
+
+/// Writes the UTF-8 of sixteen code units below U+0800, and returns its length. The bytes after it are read before the stores
+/// and written back.
+#[inline(always)]
+pub(super) fn write_two_byte(units: u16x16, dst: &mut [u8], at: usize) -> usize
+    requires dst_length { at + 48 ≤ length dst.old }
+    requires short { (k : ℕ) → k < 16 → slice_index units k < 0x800 }
+    ensures length_bound { (16 ≤ result) × (result ≤ 32) }
+    ensures written { Spills dst.old dst.new at result 0 (encode_utf8_all units) }
+{
+    let end = at + length_of_two_byte(units);
+    let following = u8x16::from_slice(&dst[end..]);
+    let written = store_two_byte(units, dst, at);
+    following.copy_to_slice(&mut dst[end..]);
+    written
+}

@@ -1,12 +1,12 @@
 //! What a decoder writes: code units of UTF-16, or bytes of UTF-8.
-ghost use Rattle.std.specs.Prelude.{◌≡◌, ℕ, ◌*◌, ◌≤◌, List, [], length, encode_utf8};
+ghost use Rattle.std.specs.Prelude.{◌≡◌, ℕ, ◌≤◌, List, [], length, encode_utf8};
 ghost use Rattle.std.specs.Char.{IsScalar};
 ghost use Rattle.std.specs.Char.Escape.{encode_utf16};
 ghost use Rattle.encoding_text.specs.Surrogates.{IsValidUtf16};
 ghost use Rattle.encoding_streams.specs.Utf16Steps.{Advances, WritesUnits};
 
 use encoding_text::mem::{convert_utf16_to_utf8_partial, utf16_valid_up_to};
-use encoding_text::utf_16::{ByteOrder, copy_utf16_bytes_to_ascii};
+use encoding_text::utf_16::{ByteOrder, convert_utf16_bytes_to_utf8_up_to_surrogate};
 
 /// A code unit of the output.
 pub(crate) trait CodeUnit: Copy {
@@ -21,10 +21,10 @@ pub(crate) trait CodeUnit: Copy {
         ensures dst_length { result ≡ need }
         ensures holds_any { (c : ℕ) → IsScalar c → length (encode c) ≤ need };
 
-    /// Writes the ASCII prefix of the UTF-16 in `src`, as much as fits into `dst`, or nothing. Returns how many code units it read
-    /// and wrote.
-    fn write_ascii(order: ByteOrder, src: &[u8], dst: &mut [Self]) -> usize
-        ensures { Advances order encode [] src.now dst.old dst.new (2 * result) result [] };
+    /// Writes the first characters of the UTF-16 in `src`, up to a surrogate and as many as fit into `dst`, or none. Returns how many
+    /// bytes it read and how many code units it wrote.
+    fn write_from_bytes(order: ByteOrder, src: &[u8], dst: &mut [Self]) -> (usize, usize)
+        ensures { Advances order encode [] src.now dst.old dst.new result.0 result.1 [] };
 
     /// Writes the first characters of `units`, as many as fit into `dst`. Returns how many code units it read and wrote.
     fn write(units: &[u16], dst: &mut [Self]) -> (usize, usize)
@@ -43,8 +43,8 @@ impl CodeUnit for u16 {
 
     // the code units are copied anyway
     #[inline(always)]
-    fn write_ascii(_order: ByteOrder, _src: &[u8], _dst: &mut [u16]) -> usize {
-        0
+    fn write_from_bytes(_order: ByteOrder, _src: &[u8], _dst: &mut [u16]) -> (usize, usize) {
+        (0, 0)
     }
 
     fn write(units: &[u16], dst: &mut [u16]) -> (usize, usize) {
@@ -67,8 +67,8 @@ impl CodeUnit for u8 {
         4
     }
 
-    fn write_ascii(order: ByteOrder, src: &[u8], dst: &mut [u8]) -> usize {
-        copy_utf16_bytes_to_ascii(order, src, dst)
+    fn write_from_bytes(order: ByteOrder, src: &[u8], dst: &mut [u8]) -> (usize, usize) {
+        convert_utf16_bytes_to_utf8_up_to_surrogate(order, src, dst)
     }
 
     fn write(units: &[u16], dst: &mut [u8]) -> (usize, usize) {

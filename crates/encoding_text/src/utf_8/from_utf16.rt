@@ -12,6 +12,7 @@ use encoding_kernels::scalar::{
 use encoding_kernels::simd::short::write_short;
 use encoding_kernels::simd::units::UnitsBelow;
 use encoding_kernels::simd::width::{BASIC_LATIN_END, HALF_STRIDE, UNIT_BLOCK};
+use encoding_kernels::utf16::source::Units;
 use encoding_kernels::utf16_to_utf8::tail::scalar_at;
 use encoding_kernels::utf16_to_utf8::text::{convert_blocks, convert_paired_blocks};
 
@@ -75,7 +76,10 @@ fn convert_prefix_and_blocks(src: &[u16], dst: &mut [u8]) -> (usize, usize, bool
     ensures progress { IsTrue result.2 → 0 < result.0 }
 {
     let prefix = copy_ascii(src, dst);
-    let (units, bytes) = convert_blocks(&src[prefix..], &mut dst[prefix..]);
+    let following = Units {
+        src: &src[prefix..],
+    };
+    let (units, bytes) = convert_blocks::<_, false>(following, &mut dst[prefix..]);
     let read = prefix + units;
     let written = prefix + bytes;
     if units > 0 && read < src.len() && src[read] < BASIC_LATIN_END {
@@ -131,7 +135,7 @@ pub fn convert_utf16_to_utf8_partial_inner(src: &[u16], dst: &mut [u8]) -> (usiz
                 singles = scalar_budget(src.len() - read, 1);
             }
         } else {
-            let scalar = scalar_at(src, read);
+            let scalar = scalar_at(Units { src }, read);
             written += write_scalar(scalar, &mut dst[written..]);
             read += utf16_length(scalar);
             singles -= 1;
@@ -154,7 +158,7 @@ pub fn convert_utf16_to_utf8_partial_tail(src: &[u16], dst: &mut [u8]) -> (usize
     let mut read = 0;
     let mut written = 0;
     while read < src.len() {
-        let scalar = scalar_at(src, read);
+        let scalar = scalar_at(Units { src }, read);
         if utf8_length(scalar) > dst.len() - written {
             break;
         }

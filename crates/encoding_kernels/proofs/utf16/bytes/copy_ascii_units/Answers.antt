@@ -9,22 +9,13 @@ use Rattle.encoding_kernels.proofs.utf16.bytes.copy_ascii_units.Goals as goal
 pub loop-dst-preserved : goal.loop-dst-preserved
 loop-dst-preserved c =
     let us = units_of c.args.big c.args.src.now in
-    let at = c.loop-dst.at in
     let here = c.loop-dst.invariant in
-    let room : length c.args.dst.now ≤ length us = omega (arith, c.requires, length-units_of c.args.big c.args.src.now) in
+    let copied = c.pack_64.ensures c.args.dst.now here.copied in
     let long = WritesPrefix-length _ _ _ _ here.copied in
-    let first = WritesPrefix_block c.args.dst.now c.loop-dst.dst c.pack_sixteen.new.dst us at 16 here.copied (omega (arith, room, long)) (omega arith)
-    c.pack_sixteen.ensures in
-    let longer = WritesPrefix-length _ _ _ _ first in
-    let both = WritesPrefix_block c.args.dst.now c.pack_sixteen.new.dst c.pack_sixteen-in-loop-dst.new.dst us (at + 16) 16 first (omega (arith, room, long))
-    (omega (arith, long, longer)) c.pack_sixteen-in-loop-dst.ensures in
-    let below = below_joined 0x80 us (at + 16) 16 (below_joined 0x80 us at 16 here.below (c.are_sixteen_ascii.ensures c.if-are_sixteen_ascii.true))
-    (c.are_sixteen_ascii-then-are_sixteen_ascii.ensures c.if-are_sixteen_ascii-2.true) in
-    let end : at + 16 + 16 ≡ at + 32 = omega arith in
     record {
-      within = omega (arith, long, WritesPrefix-length _ _ _ _ both);
-      below = λ k l. below k (omega arith);
-      copied = WritesPrefix-same _ _ _ _ _ _ both end (ap (λ n. take n us) end);
+      within = omega (arith, long, WritesPrefix-length _ _ _ _ copied);
+      below = below_joined 0x80 us c.loop-dst.at 64 here.below (c.are_64_ascii.ensures c.if-are_64_ascii.true);
+      copied = copied;
     }
 
 pub loop-dst-2-preserved : goal.loop-dst-2-preserved
@@ -32,11 +23,11 @@ loop-dst-2-preserved c =
     let us = units_of c.args.big c.args.src.now in
     let here = c.loop-dst-2.invariant in
     let long = WritesPrefix-length _ _ _ _ here.copied in
-    let next = WritesPrefix_block c.args.dst.now c.loop-dst-2.dst c.pack_sixteen-in-loop-dst-2.new.dst us c.loop-dst-2.at 16 here.copied
-    (omega (arith, c.requires, length-units_of c.args.big c.args.src.now, long)) (omega arith) c.pack_sixteen-in-loop-dst-2.ensures in
+    let next = WritesPrefix_block c.args.dst.now c.loop-dst-2.dst c.pack_sixteen.new.dst us c.loop-dst-2.at 16 here.copied
+    (omega (arith, c.requires, length-units_of c.args.big c.args.src.now, long)) (omega arith) c.pack_sixteen.ensures in
     record {
       within = omega (arith, long, WritesPrefix-length _ _ _ _ next);
-      below = below_joined 0x80 us c.loop-dst-2.at 16 here.below (c.are_sixteen_ascii-in-loop-dst-2.ensures c.if-are_sixteen_ascii-3.true);
+      below = below_joined 0x80 us c.loop-dst-2.at 16 here.below (c.are_sixteen_ascii.ensures c.if-are_sixteen_ascii.true);
       copied = next;
     }
 

@@ -4,10 +4,10 @@ use Rattle.encoding_kernels.proofs.Utf16ToUtf8Lemmas.{first_units_plain, first_u
 use Rattle.encoding_kernels.proofs.utf16_to_utf8.tail.convert_first_sixteen.Goals as goal
 
 pub returns-then-dst-ge-ROOM-clause-written : goal.returns-then-dst-ge-ROOM-clause-written
-returns-then-dst-ge-ROOM-clause-written c =
-    let us = c.args.src.now in
-    let units = c.first_units-units.result in
-    let start = c.first_units-units.ensures.1 in
+returns-then-dst-ge-ROOM-clause-written g c =
+    let us = g.S.CodeUnits.units c.args.src in
+    let units = c.first_sixteen-units.result in
+    let start = c.first_sixteen-units.ensures.1 in
     let plain = c.non_surrogate_prefix.ensures in
     let few : c.min-first.result ≤ 16 = omega (arith, c.min-first.ensures, plain.within) in
     let within : c.min-first.result ≤ length us = omega (arith, c.min-first.ensures) in
@@ -19,10 +19,10 @@ returns-then-dst-ge-ROOM-clause-written c =
     }
 
 pub returns-clause-written : goal.returns-clause-written
-returns-clause-written c =
-    let us = c.args.src.now in
-    let units = c.first_units-units.result in
-    let start = c.first_units-units.ensures.1 in
+returns-clause-written g c =
+    let us = g.S.CodeUnits.units c.args.src in
+    let units = c.first_sixteen-units.result in
+    let start = c.first_sixteen-units.ensures.1 in
     let plain = c.non_surrogate_prefix.ensures in
     let few : c.min-first.result ≤ 16 = omega (arith, c.min-first.ensures, plain.within) in
     let within : c.min-first.result ≤ length us = omega (arith, c.min-first.ensures) in

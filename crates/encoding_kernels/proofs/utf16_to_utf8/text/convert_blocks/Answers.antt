@@ -1,47 +1,76 @@
-use Rattle.std.proofs.Common.{arith}
-use Rattle.encoding_definitions.specs.Utf16.{AreCodeUnits}
-use Rattle.encoding_kernels.proofs.Utf16ToUtf8Lemmas.{converts_none, converts_more, converts_more_bmp, converts_prefix, converts_unchanged}
+use Rattle.encoding_kernels.proofs.Utf16ToUtf8Lemmas.{bmp_more, converts_none, converts_more_from, converts_more_bmp_from, converts_prefix, converts_unchanged, writes_none}
 use Rattle.encoding_kernels.proofs.utf16_to_utf8.text.convert_blocks.Goals as goal
 
 pub loop-read-init : goal.loop-read-init
-loop-read-init c = converts_none c.args.src.now c.args.dst.now
+loop-read-init g c =
+    let us = g.S.CodeUnits.units c.args.src in
+    record { converted = converts_none us c.args.dst.now; restored = λ _. writes_none us c.args.dst.now }
 
 pub loop-read-preserved : goal.loop-read-preserved
-loop-read-preserved c =
-    let us = c.args.src.now in
-    let units : AreCodeUnits us = λ k. omega (arith, c.type_inv.src k) in
-    let dense = c.convert_dense_blocks-dense.ensures in
-    converts_more_bmp us units
-    (converts_more us units c.loop-read.invariant dense.prefix dense.unchanged_after dense.within) c.convert_first_sixteen-first.ensures.written
+loop-read-preserved g c =
+    let us = g.S.CodeUnits.units c.args.src in
+    let units = c.count.ensures.code_units in
+    let dense = c.convert_dense_blocks-dense.ensures.converted in
+    let all = converts_more_from us units c.skip.ensures c.loop-read.invariant.converted dense in
+    record {
+      converted = converts_more_bmp_from us units c.skip-in-loop-read.ensures all c.convert_first_sixteen-first.ensures.written;
+      restored = λ t.
+          let dense = c.convert_dense_blocks-dense.ensures.restored t in
+          let bmp = bmp_more c.skip.ensures (c.loop-read.invariant.restored t) dense in
+          bmp_more c.skip-in-loop-read.ensures bmp c.convert_first_sixteen-first.ensures.written;
+    }
 
-pub returns-else-begins_block : goal.returns-else-begins_block
-returns-else-begins_block c =
-    let us = c.args.src.now in
-    let units : AreCodeUnits us = λ k. omega (arith, c.type_inv.src k) in
-    let all = c.loop-read.invariant in
-    record { prefix = converts_prefix us units all; unchanged_after = converts_unchanged us units all; within = all.within }
+pub returns-else-begins_block-clause-prefix : goal.returns-else-begins_block-clause-prefix
+returns-else-begins_block-clause-prefix g c =
+    let us = g.S.CodeUnits.units c.args.src in
+    converts_prefix us c.count.ensures.code_units c.loop-read.invariant.converted
 
-pub returns-after-loop-read : goal.returns-after-loop-read
-returns-after-loop-read c =
-    let us = c.args.src.now in
-    let units : AreCodeUnits us = λ k. omega (arith, c.type_inv.src k) in
-    let all = c.loop-read.invariant in
-    record { prefix = converts_prefix us units all; unchanged_after = converts_unchanged us units all; within = all.within }
+pub returns-after-loop-read-clause-prefix : goal.returns-after-loop-read-clause-prefix
+returns-after-loop-read-clause-prefix g c =
+    let us = g.S.CodeUnits.units c.args.src in
+    converts_prefix us c.count.ensures.code_units c.loop-read.invariant.converted
 
-pub returns-then-not-begins_block : goal.returns-then-not-begins_block
-returns-then-not-begins_block c =
-    let us = c.args.src.now in
-    let units : AreCodeUnits us = λ k. omega (arith, c.type_inv.src k) in
-    let dense = c.convert_dense_blocks-dense.ensures in
-    let all = converts_more us units c.loop-read.invariant dense.prefix dense.unchanged_after dense.within in
-    record { prefix = converts_prefix us units all; unchanged_after = converts_unchanged us units all; within = all.within }
+pub returns-then-not-begins_block-clause-prefix : goal.returns-then-not-begins_block-clause-prefix
+returns-then-not-begins_block-clause-prefix g c =
+    let us = g.S.CodeUnits.units c.args.src in
+    let units = c.count.ensures.code_units in
+    let dense = c.convert_dense_blocks-dense.ensures.converted in
+    let all = converts_more_from us units c.skip.ensures c.loop-read.invariant.converted dense in
+    converts_prefix us units all
 
-pub returns-then-first-eq0 : goal.returns-then-first-eq0
-returns-then-first-eq0 c =
-    let us = c.args.src.now in
-    let units : AreCodeUnits us = λ k. omega (arith, c.type_inv.src k) in
-    let dense = c.convert_dense_blocks-dense.ensures in
-    let all =
-    converts_more_bmp us units
-    (converts_more us units c.loop-read.invariant dense.prefix dense.unchanged_after dense.within) c.convert_first_sixteen-first.ensures.written in
-    record { prefix = converts_prefix us units all; unchanged_after = converts_unchanged us units all; within = all.within }
+pub returns-then-not-begins_block-clause-unchanged_after : goal.returns-then-not-begins_block-clause-unchanged_after
+returns-then-not-begins_block-clause-unchanged_after g c =
+    let us = g.S.CodeUnits.units c.args.src in
+    let units = c.count.ensures.code_units in
+    let dense = c.convert_dense_blocks-dense.ensures.converted in
+    let all = converts_more_from us units c.skip.ensures c.loop-read.invariant.converted dense in
+    converts_unchanged us units all
+
+pub returns-then-not-begins_block-clause-restored : goal.returns-then-not-begins_block-clause-restored
+returns-then-not-begins_block-clause-restored g c = λ t.
+    let dense = c.convert_dense_blocks-dense.ensures.restored t in
+    bmp_more c.skip.ensures (c.loop-read.invariant.restored t) dense
+
+pub returns-then-first-eq0-clause-prefix : goal.returns-then-first-eq0-clause-prefix
+returns-then-first-eq0-clause-prefix g c =
+    let us = g.S.CodeUnits.units c.args.src in
+    let units = c.count.ensures.code_units in
+    let dense = c.convert_dense_blocks-dense.ensures.converted in
+    let all = converts_more_from us units c.skip.ensures c.loop-read.invariant.converted dense in
+    let more = converts_more_bmp_from us units c.skip-in-loop-read.ensures all c.convert_first_sixteen-first.ensures.written in
+    converts_prefix us units more
+
+pub returns-then-first-eq0-clause-unchanged_after : goal.returns-then-first-eq0-clause-unchanged_after
+returns-then-first-eq0-clause-unchanged_after g c =
+    let us = g.S.CodeUnits.units c.args.src in
+    let units = c.count.ensures.code_units in
+    let dense = c.convert_dense_blocks-dense.ensures.converted in
+    let all = converts_more_from us units c.skip.ensures c.loop-read.invariant.converted dense in
+    let more = converts_more_bmp_from us units c.skip-in-loop-read.ensures all c.convert_first_sixteen-first.ensures.written in
+    converts_unchanged us units more
+
+pub returns-then-first-eq0-clause-restored : goal.returns-then-first-eq0-clause-restored
+returns-then-first-eq0-clause-restored g c = λ t.
+    let dense = c.convert_dense_blocks-dense.ensures.restored t in
+    let all = bmp_more c.skip.ensures (c.loop-read.invariant.restored t) dense in
+    bmp_more c.skip-in-loop-read.ensures all c.convert_first_sixteen-first.ensures.written

@@ -1,9 +1,17 @@
 use Rattle.std.proofs.Common.{◌-◌, length}
+use Rattle.std.specs.Prelude.{IsTrue}
+use denote.Param.{number}
+use Rattle.encoding_kernels.specs.Utf8Output.{WritesBmp}
+use Rattle.encoding_kernels.specs.contracts.utf16_to_utf8.text.convert_blocks.{RESTORES-type}
 use Rattle.encoding_kernels.proofs.Utf16ToUtf8Lemmas.{Converts}
 use Rattle.encoding_kernels.proofs.utf16_to_utf8.text.convert_blocks.Given as goal
 
 abbrev pub invariant-loop-read : goal.invariant-loop-read
-invariant-loop-read l = Converts l.src l.initial.dst l.dst l.read l.written
+invariant-loop-read g l = record {
+  converted : Converts (g.S.CodeUnits.units l.src) l.initial.dst l.dst l.read l.written;
+  restored : IsTrue (RESTORES-type (number g.row.RESTORES) (number g.row.RESTORES))
+      → WritesBmp (g.S.CodeUnits.units l.src) l.initial.dst l.dst l.read l.written;
+}
 
 abbrev pub decreases-loop-read : goal.decreases-loop-read
-decreases-loop-read l = length l.src - l.read
+decreases-loop-read g l = length (g.S.CodeUnits.units l.src) - l.read

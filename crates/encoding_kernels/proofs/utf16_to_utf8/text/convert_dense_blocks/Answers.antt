@@ -1,26 +1,39 @@
 use Rattle.std.proofs.Common.{◌≡◌, arith, subst}
-use Rattle.encoding_definitions.specs.Utf16.{AreCodeUnits}
 use Rattle.encoding_kernels.specs.Utf8Output.{SpillsBmp}
-use Rattle.encoding_kernels.proofs.Utf16ToUtf8Lemmas.{converts_due, converts_paid, converts_whole}
-use Rattle.encoding_kernels.proofs.OverwriteLemmas.{due_of_first}
+use Rattle.encoding_kernels.proofs.Utf16ToUtf8Lemmas.{bmp_of_due, converts_due, converts_paid_from, converts_whole}
+use Rattle.encoding_kernels.proofs.OverwriteLemmas.{due_of_first_from}
+use Rattle.encoding_kernels.proofs.utf16_to_utf8.text.convert_dense_blocks.Given.{Over}
 use Rattle.encoding_kernels.proofs.utf16_to_utf8.text.convert_dense_blocks.Goals as goal
 
-pub returns-then-spilled-eq0 : goal.returns-then-spilled-eq0
-returns-then-spilled-eq0 c =
-    let us = c.args.src.now in
-    let units : AreCodeUnits us = λ k. omega (arith, c.type_inv.src k) in
-    let none : c.convert_due_blocks-read.result.2 ≡ 0 = omega arith in
-    let all =
-    converts_due us units
-    (subst (SpillsBmp us c.args.dst.now c.convert_due_blocks-read.new.dst c.convert_due_blocks-read.result.0 c.convert_due_blocks-read.result.1) none
-    (due_of_first c.min-end.result (omega arith) c.convert_due_blocks-read.ensures)) in
-    converts_whole us units all
+none_spilled : (g : Over) (c : goal.Then-spilled-eq0 g)
+    → SpillsBmp (g.S.CodeUnits.units c.args.src) c.args.dst.now c.convert_due_blocks-read.new.dst c.convert_due_blocks-read.result.0
+    c.convert_due_blocks-read.result.1 0
+none_spilled g c =
+    let us = g.S.CodeUnits.units c.args.src in
+    let call = c.convert_due_blocks-read in
+    let none : call.result.2 ≡ 0 = omega arith in
+    subst (SpillsBmp us c.args.dst.now call.new.dst call.result.0 call.result.1) none
+    (due_of_first_from c.min-end.result c.first.ensures (omega (arith, c.min-end.ensures, c.count.ensures.count)) call.ensures.converted)
 
-pub returns : goal.returns
-returns c =
-    let us = c.args.src.now in
-    let units : AreCodeUnits us = λ k. omega (arith, c.type_inv.src k) in
+pub returns-then-spilled-eq0-clause-converted : goal.returns-then-spilled-eq0-clause-converted
+returns-then-spilled-eq0-clause-converted g c =
+    let us = g.S.CodeUnits.units c.args.src in
+    let units = c.count.ensures.code_units in
+    converts_whole us units (converts_due us units (none_spilled g c))
+
+pub returns-then-spilled-eq0-clause-restored : goal.returns-then-spilled-eq0-clause-restored
+returns-then-spilled-eq0-clause-restored g c = λ _. bmp_of_due (none_spilled g c)
+
+pub returns-clause-converted : goal.returns-clause-converted
+returns-clause-converted g c =
+    let us = g.S.CodeUnits.units c.args.src in
+    let units = c.count.ensures.code_units in
+    let call = c.convert_due_blocks-read in
     let next = c.convert_spilled-more.ensures in
-    let all = converts_paid us units (due_of_first c.min-end.result (omega arith) c.convert_due_blocks-read.ensures)
-    (omega (arith, next.length_bound, c.convert_due_blocks-read.ensures.few)) next.converted.prefix next.converted.unchanged_after next.converted.within in
-    converts_whole us units all
+    let due =
+    due_of_first_from c.min-end.result c.first.ensures (omega (arith, c.min-end.ensures, c.count.ensures.count)) call.ensures.converted in
+    converts_whole us units
+    (converts_paid_from us units c.skip.ensures due (omega (arith, next.length_bound, call.ensures.converted.few)) next.converted)
+
+pub returns-clause-restored : goal.returns-clause-restored
+returns-clause-restored g c = λ t. absurd (omega (arith, c.convert_due_blocks-read.ensures.restored t, c.if-spilled-eq0.false))

@@ -1,9 +1,15 @@
-use Rattle.std.proofs.Common.{◌-◌, length}
+use Rattle.std.proofs.Common.{◌≡◌, ◌-◌, length}
+use Rattle.std.specs.Prelude.{IsTrue}
+use denote.Param.{number}
 use Rattle.encoding_kernels.specs.Utf8Output.{ConvertsDue}
+use Rattle.encoding_kernels.specs.contracts.utf16_to_utf8.text.convert_due_blocks.{RESTORES-type}
 use Rattle.encoding_kernels.proofs.utf16_to_utf8.text.convert_due_blocks.Given as goal
 
 abbrev pub invariant-loop-read : goal.invariant-loop-read
-invariant-loop-read l = ConvertsDue l.src l.initial.dst l.dst 0 l.read l.written l.spilled
+invariant-loop-read g l = record {
+  converted : ConvertsDue (g.S.CodeUnits.units l.src) l.initial.dst l.dst 0 l.read l.written l.spilled;
+  restored : IsTrue (RESTORES-type (number g.row.RESTORES) (number g.row.RESTORES)) → l.spilled ≡ 0;
+}
 
 abbrev pub decreases-loop-read : goal.decreases-loop-read
-decreases-loop-read l = length l.src - l.read
+decreases-loop-read g l = length (g.S.CodeUnits.units l.src) - l.read

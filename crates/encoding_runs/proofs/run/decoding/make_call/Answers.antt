@@ -4,7 +4,7 @@ use Rattle.encoding_text.specs.Decoding.{DecodeStep}
 use Rattle.encoding_runs.specs.Runs.{room_of}
 use Rattle.encoding_runs.proofs.TurnLemmas.{same_call}
 use Rattle.encoding_runs.proofs.run.decoding.make_call.Goals as goal
-use Rattle.encoding_text.proofs.WholePrefixesLemmas.{written_within}
+use Rattle.encoding_kernels.proofs.UpToSurrogateLemmas.{written_within}
 
 pub returns : goal.returns
 returns g c =

@@ -1,7 +1,8 @@
 use Rattle.std.proofs.Common.{◌≡◌, arith, ap, take, length}
 use Rattle.std.proofs.lemmas.List.{length-take}
 use Rattle.encoding_definitions.proofs.PrefixesLemmas.{WritesPrefix-same}
-use Rattle.encoding_text.proofs.WholePrefixesLemmas.{other_at, written_within}
+use Rattle.encoding_text.proofs.WholePrefixesLemmas.{other_at}
+use Rattle.encoding_kernels.proofs.UpToSurrogateLemmas.{written_within}
 use Rattle.encoding_text.proofs.utf_8.from_utf16.copy_ascii.Goals as goal
 
 pub returns-in-Some-clause-stops : goal.returns-in-Some-clause-stops

@@ -1,6 +1,6 @@
 use Rattle.std.proofs.Common.{[], arith}
 use Rattle.encoding_streams.proofs.Utf16StepLemmas.{advance_none, advance_then, too_long_after}
-use Rattle.encoding_streams.proofs.utf16_decoder.convert_blocks.Goals as goal
+use Rattle.encoding_streams.proofs.utf16_decoder.blocks.convert_blocks.Goals as goal
 
 pub loop-read-init : goal.loop-read-init
 loop-read-init g c = advance_none c.args.order g.U.CodeUnit.encode [] c.args.src.now c.args.dst.now
@@ -17,7 +17,7 @@ pub loop-read-preserved : goal.loop-read-preserved
 loop-read-preserved g c =
     advance_then c.args.order g.U.CodeUnit.encode [] [] [] c.args.src.now _ _ _ _ _ _ _
     (advance_then c.args.order g.U.CodeUnit.encode [] [] [] c.args.src.now _ _ _ _ _ _ _ c.loop-read.invariant c.convert_block-more.ensures.characters)
-    c.write_ascii_after-ascii.ensures
+    c.write_after-more.ensures
 
 pub returns-then-full-clause-characters : goal.returns-then-full-clause-characters
 returns-then-full-clause-characters g c =

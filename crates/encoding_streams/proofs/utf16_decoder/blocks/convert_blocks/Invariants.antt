@@ -1,6 +1,6 @@
 use Rattle.std.proofs.Common.{◌-◌, [], length}
 use Rattle.encoding_streams.specs.Utf16Steps.{Advances}
-use Rattle.encoding_streams.proofs.utf16_decoder.convert_blocks.Given as goal
+use Rattle.encoding_streams.proofs.utf16_decoder.blocks.convert_blocks.Given as goal
 
 abbrev pub invariant-loop-read : goal.invariant-loop-read
 invariant-loop-read g l = Advances l.order g.U.CodeUnit.encode [] l.src l.fn.dst l.dst l.read l.written []

@@ -2,7 +2,7 @@ use Rattle.std.proofs.Common.{◌≡◌, ◌<◌, length, take, arith}
 use Rattle.std.proofs.lemmas.Bool.Decides.{nat_tests}
 use Rattle.std.proofs.lemmas.List.{length-take, length-take-le}
 use Rattle.encoding_streams.proofs.Utf16StepLemmas.{units_spelled, within_units, block_advances, too_long}
-use Rattle.encoding_streams.proofs.utf16_decoder.convert_block.Goals as goal
+use Rattle.encoding_streams.proofs.utf16_decoder.blocks.convert_block.Goals as goal
 
 pub overflow_mul-result : goal.overflow_mul-result
 overflow_mul-result g c =

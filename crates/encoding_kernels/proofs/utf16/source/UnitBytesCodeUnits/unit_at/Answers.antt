@@ -1,0 +1,8 @@
+use Rattle.std.proofs.Common.{arith}
+use denote.Param.{number}
+use Rattle.encoding_kernels.specs.contracts.utf16.source.UnitBytesCodeUnits.TheImpl.{BIG-type}
+use Rattle.encoding_kernels.proofs.UnitBytesLemmas.{length-units_of}
+use Rattle.encoding_kernels.proofs.utf16.source.UnitBytesCodeUnits.unit_at.Goals as goal
+
+pub unit_at-requires : goal.unit_at-requires
+unit_at-requires g c = omega (arith, c.requires, length-units_of (BIG-type (number g.row.BIG)) c.args.self.src.now)
