@@ -11,9 +11,11 @@ use encoding_kernels::latin1::to_utf8::{
 };
 use encoding_kernels::scalar::write_scalar;
 use encoding_kernels::simd::copy::{copy_prefix, pack_lower, unpack_part};
-use encoding_kernels::simd::scan::{BytesBelow, are_bytes_below};
+use encoding_kernels::simd::scan::{AllPass, BytesBelow};
 use encoding_kernels::simd::short::write_short;
-use encoding_kernels::simd::width::{ASCII_END, BLOCK, HALF_STRIDE, STRIDE, TWO_BLOCKS};
+use encoding_kernels::simd::width::{
+    ASCII_END, BLOCK, HALF_BLOCK, HALF_STRIDE, STRIDE, TWO_BLOCKS,
+};
 use std::simd::prelude::*;
 
 /// The length in UTF-8 of a character from U+0080 to U+00FF.
@@ -58,10 +60,14 @@ fn convert_latin1_blocks(src: &[u8], dst: &mut [u8]) -> (usize, usize)
     ensures written { WritesPrefix dst.old dst.new result.1
         (encode_utf8_all (take result.0 src.now)) }
 {
+    let ascii = BytesBelow {
+        bytes: src,
+        bound: ASCII_END,
+    };
     let mut read = 0;
     let mut written = 0;
     while src.len() - read >= BLOCK && dst.len() - written >= 2 * BLOCK {
-        if are_bytes_below::<BLOCK>(src, read, ASCII_END) {
+        if AllPass::<HALF_BLOCK, BLOCK>::pass(&ascii, read) {
             return (read, written);
         }
         written += write_latin1_block(src, read, dst, written);
