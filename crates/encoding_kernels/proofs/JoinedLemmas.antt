@@ -72,21 +72,3 @@ unit_others bound at us room =
     let is = zero_others w16 32 0xFFFF bound at us some room in
     let bytes = unit_bytes_zero _ _ (other_lanes w16 32 0xFFFF bound at us some room) (λ k l. small 0xFFFF bound _ (omega arith)) in
     (λ t. is.0 (bytes.0 t), λ h. bytes.1 (is.1 h))
-
--- two halves, which may overlap
-pub both_below : (bound at n : ℕ) (us : List ℕ) {a b : List ℕ} → length a ≡ 64 → length b ≡ 64 → 32 ≤ n → n ≤ 64 → IsZeroTo a 64 ↔ AllBelow bound us at 32
-    → IsZeroTo b 64 ↔ AllBelow bound us (at + (n - 32)) 32 → IsZeroTo (zip2 bit_or a b) 64 ↔ AllBelow bound us at n
-both_below bound at n us {a} {b} long long_b least few p q = (
-  λ z k from to. let both = or_zeros 64 a b long long_b z in elim (cases_lt k (at + 32)) [
-    | inl l ↦ p.0 both.0 k from l
-    | inr l ↦ q.0 both.1 k (omega arith) (omega arith)
-  ],
-  λ h.
-      let lanes = HasLanes-zip2 bit_or (HasLanes-itself 64 a long) (HasLanes-itself 64 b long_b) in
-      record {
-        each = λ i l.
-            let first = (p.1 (λ k from to. h k from (omega arith))).each i l in
-            let second = (q.1 (λ k from to. h k (omega arith) (omega arith))).each i l in
-            lanes.each i l ∙ ap (λ x. bit_or x (get_or b i 0)) first ∙ ap (bit_or 0) second;
-      },
-)

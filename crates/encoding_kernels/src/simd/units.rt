@@ -5,7 +5,7 @@ ghost use Rattle.encoding_kernels.specs.Following.{IsZeroTo};
 ghost use Rattle.encoding_kernels.specs.Scans.{AllBelow, IsRunBelow, BelowUpTo};
 
 use crate::simd::scan::{AllPass, LanePredicate, Test, find, reach, run, skip};
-use crate::simd::width::{HALF_UNIT_BLOCK, STRIDE, UNIT_BLOCK, UNIT_STRIDE};
+use crate::simd::width::{HALF_UNIT_BLOCK, STRIDE, UNIT_STRIDE};
 use std::simd::Simd;
 use std::simd::prelude::*;
 
@@ -34,12 +34,7 @@ impl<'a, const N: usize> LanePredicate<N> for UnitsBelow<'a> {
 impl<'a, const N: usize> AllPass<N, N> for UnitsBelow<'a> {
     #[inline(always)]
     fn pass(&self, at: usize) -> bool {
-        if N < UNIT_BLOCK {
-            return LanePredicate::<N>::failing(self, at) == 0;
-        }
-        let others = others_of_32(self.units, at, self.bound)
-            | others_of_32(self.units, at + (N - HALF_UNIT_BLOCK), self.bound);
-        is_zero_block(others)
+        LanePredicate::<N>::failing(self, at) == 0
     }
 }
 
@@ -55,8 +50,7 @@ impl<'a> AllPass<STRIDE, HALF_UNIT_BLOCK> for UnitsBelow<'a> {
 #[inline(always)]
 fn others_of_32(units: &[u16], at: usize, bound: u16) -> u8x64
     requires { at + 32 ≤ length units.now }
-    ensures long { length result ≡ 64 }
-    ensures zero { IsZeroTo result 64 ↔ AllBelow bound units.now at 32 }
+    ensures { IsZeroTo result 64 ↔ AllBelow bound units.now at 32 }
 {
     let others = u16x32::from_slice(&units[at..]).simd_ge(u16x32::splat(bound));
     others
