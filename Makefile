@@ -101,20 +101,22 @@ library = cd crates/encoding_runs && rt lib && cd ../encoding_streams && rt lib 
 FREESTANDING = -O2 -Wall -Wextra -fPIC -ffreestanding -fcf-protection=none -fno-asynchronous-unwind-tables -Ic/include
 PROGRAM_C = -std=c99 -D_POSIX_C_SOURCE=200809L -O2 -Wall -Wextra -fPIC
 
-# archive(the CPU, how long it takes, words for rt, the compiler, the archiver): proves and builds the static library.
-# All CPUs share the proofs, so each but the first is only compiled.
+# archive(the CPU, how long it takes, words for rt, the compiler, the archiver, objcopy): proves and builds the static library.
+# All CPUs share the proofs, so each but the first is only compiled. With objcopy, each function begins at a multiple of 64 bytes:
+# on x86-64 a jump that crosses one of 32 can be slow, so a function's speed would depend on the length of those before it.
 define archive
 	@mkdir -p $(@D)
 	release/origin > $(@D)/origin
 	@$(progress) $(1)/library '$(2)' sh -c '$(library) $(3)'
 	$(4) $(FREESTANDING) -c -o $(@D)/layout.o c/layout.c
 	cp crates/encoding_c/out/libencoding_c.a $@
+	$(if $(6),$(6) -D --set-section-alignment '.text.*=64' $@)
 	$(5) rsD $@ $(@D)/layout.o
 endef
 
 build/x86%/libencoding_text.a: $(SOURCES) c/layout.c
 	$(need_rt)$(need_cc)$(need_binutils)
-	$(call archive,x86$*,5 to 11 min$(comma) 1 behind another,--cpu=x86$*,$(CC),$(AR))
+	$(call archive,x86$*,5 to 11 min$(comma) 1 behind another,--cpu=x86$*,$(CC),$(AR),$(OBJCOPY))
 
 build/aarch64/libencoding_text.a: $(SOURCES) c/layout.c
 	$(need_rt)$(need_cross)
