@@ -9,7 +9,7 @@ use Rattle.std.proofs.lemmas.List.FromFn.{get_or-map-range_with_len, length-rang
 use Rattle.std.proofs.lemmas.Simd.{Each1-get_or, mask_l-mod, pick_l_whole, swz_l, SwzOk, length-swz_l, get_or-swz_l_below, SwzOk-from_below, Each1-from_get_or}
 use Rattle.encoding_kernels.specs.Scans.{BelowUpTo, HasLanes}
 use Rattle.encoding_kernels.specs.EndingUnits.{ends_unit, low_bits, unit_at, units_after, ends_after, unit_lane, upper_of}
-use Rattle.encoding_kernels.proofs.VectorLemmas.{HasLanes-splat, HasLanes-zip2, HasLanes_load, HasLanes_same, compared, same_below, wide, wide_l}
+use Rattle.encoding_kernels.proofs.VectorLemmas.{HasLanes-itself, HasLanes-splat, HasLanes-zip2, HasLanes_load, HasLanes_same, compared, same_below, wide, wide_l}
 use Rattle.std.specs.Int.Bits.{or_zero_r}
 use Rattle.std.proofs.lemmas.Bool.{cond-false, lt-leb, cases_lt}
 use Rattle.std.proofs.lemmas.Bool.Decides.{nat_tests}
@@ -118,16 +118,35 @@ pub triple_lane : (a b d : ℕ) → (a * 0x1000 % 2 ^ 16 + (bit_and b 63 * 64 % 
 triple_lane a b d = let e : a * 4096 % 65536 ≡ a % 16 * 4096 = omega arith in ap (λ n. (a * 0x1000 % 2 ^ 16 + n) % 2 ^ 16) (low_lane b d) ∙ omega arith
 
 -- ---- one lane
-pub lower_bits_lane : (a b : ℕ) → (a * 2 ^ 6 % 2 ^ 8 + bit_and b 0x3F) % 2 ^ 8 ≡ low_bits a b % 0x100
+lower_bits_lane : (a b : ℕ) → (a * 2 ^ 6 % 2 ^ 8 + bit_and b 0x3F) % 2 ^ 8 ≡ low_bits a b % 0x100
 lower_bits_lane a b = let six : bit_and b 0x3F ≡ b % 64 = and_mask b 6 in ap (λ n. (a * 2 ^ 6 % 2 ^ 8 + n) % 2 ^ 8) six ∙ omega arith
 
 pub high_bits_lane : (a b : ℕ) → (a * 2 ^ 2 % 2 ^ 8 + bit_and (b / 2 ^ 4) 3) % 2 ^ 8 ≡ low_bits a b / 0x10
 high_bits_lane a b = let two : bit_and (b / 2 ^ 4) 3 ≡ b / 16 % 4 = and_mask (b / 2 ^ 4) 2 in ap (λ n. (a * 2 ^ 2 % 2 ^ 8 + n) % 2 ^ 8) two ∙ omega arith
 
-pub upper_bits_lane : (y a : ℕ) → ((y - 0xE0) * 2 ^ 4 % 2 ^ 8 + bit_and (a / 2 ^ 2) 0x0F) % 2 ^ 8 ≡ upper_of y a
+upper_bits_lane : (y a : ℕ) → ((y - 0xE0) * 2 ^ 4 % 2 ^ 8 + bit_and (a / 2 ^ 2) 0x0F) % 2 ^ 8 ≡ upper_of y a
 upper_bits_lane y a =
     let four : bit_and (a / 2 ^ 2) 0x0F ≡ a / 4 % 16 = and_mask (a / 2 ^ 2) 4 in
     grind (arith, nat_tests, four)
+
+-- the bits of a code unit, if it is no surrogate, in vectors
+module _ {one : List ℕ} {a : ℕ → ℕ} (before : HasLanes 16 one a) where
+  pub lower_bits_lanes : (v : List ℕ) → length v ≡ 16
+      → HasLanes 16 (zip2 (λ p q. (p + q) % 2 ^ 8) (zip2 (λ p n. p * 2 ^ n % 2 ^ 8) one (replicate 16 6)) (zip2 bit_and v (replicate 16 0x3F)))
+      (λ k. low_bits (a k) (get_or v k 0) % 0x100)
+  lower_bits_lanes v long =
+      let high = HasLanes-zip2 (λ p n. p * 2 ^ n % 2 ^ 8) before (HasLanes-splat 16 6) in
+      let low = HasLanes-zip2 bit_and (HasLanes-itself 16 v long) (HasLanes-splat 16 0x3F) in
+      HasLanes_same (HasLanes-zip2 (λ p q. (p + q) % 2 ^ 8) high low) (λ k l. lower_bits_lane _ _)
+
+  pub upper_bits_lanes : {leads : List ℕ} (y : ℕ → ℕ) → HasLanes 16 leads (λ k. y k - 0xE0)
+      → HasLanes 16 (zip2 (λ p q. (p + q) % 2 ^ 8) (zip2 (λ p n. p * 2 ^ n % 2 ^ 8) leads (replicate 16 4))
+      (zip2 bit_and (zip2 (λ p n. p / 2 ^ n) one (replicate 16 2)) (replicate 16 0x0F)))
+      (λ k. upper_of (y k) (a k))
+  upper_bits_lanes y leads =
+      let above = HasLanes-zip2 (λ p n. p * 2 ^ n % 2 ^ 8) leads (HasLanes-splat 16 4) in
+      let below = HasLanes-zip2 bit_and (HasLanes-zip2 (λ p n. p / 2 ^ n) before (HasLanes-splat 16 2)) (HasLanes-splat 16 0x0F) in
+      HasLanes_same (HasLanes-zip2 (λ p q. (p + q) % 2 ^ 8) above below) (λ k l. upper_bits_lane _ _)
 
 pub lower_lane : (x y a b : ℕ) → b < 256
     → cond (ltb b 0x80) b (cond (leb 0xF0 y) ((low_bits a b / 0x10 + 0xC0) % 2 ^ 8) (low_bits a b % 0x100)) ≡ unit_at x y a b % 0x100

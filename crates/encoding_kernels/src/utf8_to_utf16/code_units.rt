@@ -5,7 +5,7 @@
 ghost use Rattle.std.specs.Prelude.{◌≡◌, ℕ, ◌+◌, ◌-◌, ◌*◌, ◌/◌, ◌%◌, ◌^◌, ◌<◌, ◌≤◌, ◌∷◌, false, ◌++◌, length, take, drop, replicate, slice_index, IsTrue, map};
 ghost use Rattle.std.specs.Simd.Lanes.{mask_l};
 ghost use Rattle.encoding_kernels.specs.Scans.{BelowUpTo, HasLanes};
-ghost use Rattle.encoding_kernels.specs.EndingUnits.{ends_after, low_bits, unit_at, units_after, upper_of, compressed_places};
+ghost use Rattle.encoding_kernels.specs.EndingUnits.{ends_after, low_bits, unit_at, units_after, compressed_places};
 
 use crate::simd::copy::join_bytes;
 use std::simd::prelude::*;
@@ -18,41 +18,6 @@ pub(super) fn is_below(block: u8x16, bound: u8) -> bool
     block.simd_ge(u8x16::splat(bound)).to_bitmask() == 0
 }
 
-/// Returns the last eight of the twelve bits that each byte and the one before it hold, six each.
-#[inline(always)]
-fn lower_bits(one: u8x16, block: u8x16) -> u8x16
-    ensures { (f : ℕ → ℕ) → HasLanes 16 one f
-        → HasLanes 16 result (λ k. low_bits (f k) (slice_index block k) % 0x100) }
-{
-    (one << u8x16::splat(6)) + (block & u8x16::splat(0x3F))
-}
-
-/// Returns the four bits above those, and above these the four of a byte that begins three and is two before.
-#[inline(always)]
-fn upper_bits(two: u8x16, one: u8x16) -> u8x16
-    ensures { (f g : ℕ → ℕ) → HasLanes 16 two f → HasLanes 16 one g
-        → HasLanes 16 result (λ k. upper_of (f k) (g k)) }
-{
-    let above = two.saturating_sub(u8x16::splat(0xE0)) << u8x16::splat(4);
-    above + ((one >> u8x16::splat(2)) & u8x16::splat(0x0F))
-}
-
-/// Returns the code unit that ends with each byte, if no character has four bytes, given the bytes one and two before
-/// each: the first eight, and the last eight.
-#[inline(always)]
-fn short_units(two: u8x16, one: u8x16, block: u8x16) -> (u16x8, u16x8)
-    ensures { (x y a : ℕ → ℕ) → HasLanes 16 two y → HasLanes 16 one a
-        → ((k : ℕ) → k < 16 → (x k < 0xF0) × (y k < 0xF0))
-        → HasLanes 8 result.0 (λ k. unit_at (x k) (y k) (a k) (slice_index block k))
-        × HasLanes 8 result.1
-        (λ k. unit_at (x (8 + k)) (y (8 + k)) (a (8 + k)) (slice_index block (8 + k))) }
-{
-    let is_ascii = block.simd_lt(u8x16::splat(0x80));
-    let lower = is_ascii.select(block, lower_bits(one, block));
-    let upper = is_ascii.select(u8x16::splat(0), upper_bits(two, one));
-    join_bytes(lower, upper)
-}
-
 /// Returns the last eight of the ten bits of a high surrogate that each byte ends, without what is added to them.
 #[inline(always)]
 fn high_bits(one: u8x16, block: u8x16) -> u8x16
@@ -62,25 +27,40 @@ fn high_bits(one: u8x16, block: u8x16) -> u8x16
     (one << u8x16::splat(2)) + ((block >> u8x16::splat(4)) & u8x16::splat(3))
 }
 
-/// Returns the lower byte of the code unit that ends with each byte, given the bytes one and two before each.
+/// Returns the lower byte of the code unit that ends with each byte, if no character has more than N, given the bytes one and
+/// two before each.
 #[inline(always)]
-fn lower_bytes(two: u8x16, one: u8x16, block: u8x16) -> u8x16
+fn lower_bytes<const N: usize>(two: u8x16, one: u8x16, block: u8x16) -> u8x16
     ensures { (x y a : ℕ → ℕ) → HasLanes 16 two y → HasLanes 16 one a
+        → (N < 4 → (k : ℕ) → k < 16 → (x k < 0xF0) × (y k < 0xF0))
         → HasLanes 16 result (λ k. unit_at (x k) (y k) (a k) (slice_index block k) % 0x100) }
 {
+    let is_ascii = block.simd_lt(u8x16::splat(0x80));
+    // the last eight of twelve bits: six of each byte, and six of the one before it
+    let bits = (one << u8x16::splat(6)) + (block & u8x16::splat(0x3F));
+    if N < 4 {
+        return is_ascii.select(block, bits);
+    }
     let high = high_bits(one, block) + u8x16::splat(0xC0);
-    let longer = two
-        .simd_ge(u8x16::splat(0xF0))
-        .select(high, lower_bits(one, block));
-    block.simd_lt(u8x16::splat(0x80)).select(block, longer)
+    let longer = two.simd_ge(u8x16::splat(0xF0)).select(high, bits);
+    is_ascii.select(block, longer)
 }
 
-/// Returns the upper byte of the code unit that ends with each byte, given the bytes one, two and three before each.
+/// Returns the upper byte of the code unit that ends with each byte, if no character has more than N, given the bytes one, two
+/// and three before each.
 #[inline(always)]
-fn upper_bytes(three: u8x16, two: u8x16, one: u8x16, block: u8x16) -> u8x16
+fn upper_bytes<const N: usize>(three: u8x16, two: u8x16, one: u8x16, block: u8x16) -> u8x16
     ensures { (x y a : ℕ → ℕ) → HasLanes 16 three x → HasLanes 16 two y → HasLanes 16 one a
+        → (N < 4 → (k : ℕ) → k < 16 → (x k < 0xF0) × (y k < 0xF0))
         → HasLanes 16 result (λ k. unit_at (x k) (y k) (a k) (slice_index block k) / 0x100) }
 {
+    let is_ascii = block.simd_lt(u8x16::splat(0x80));
+    // the four bits above those, and above these the four of a byte that begins three and is two before
+    let above = two.saturating_sub(u8x16::splat(0xE0)) << u8x16::splat(4);
+    let bits = above + ((one >> u8x16::splat(2)) & u8x16::splat(0x0F));
+    if N < 4 {
+        return is_ascii.select(u8x16::splat(0), bits);
+    }
     let high = high_bits(one, block)
         .simd_ge(u8x16::splat(0x40))
         .select(u8x16::splat(0xD8), u8x16::splat(0xD7))
@@ -88,31 +68,12 @@ fn upper_bytes(three: u8x16, two: u8x16, one: u8x16, block: u8x16) -> u8x16
     let low = three
         .simd_ge(u8x16::splat(0xF0))
         .select(u8x16::splat(0xDC), u8x16::splat(0));
-    let longer = two
-        .simd_ge(u8x16::splat(0xF0))
-        .select(high, upper_bits(two, one) | low);
-    block
-        .simd_lt(u8x16::splat(0x80))
-        .select(u8x16::splat(0), longer)
-}
-
-/// Returns the code unit that ends with each byte, given the bytes one, two and three before each: the first eight, and
-/// the last eight.
-#[inline(always)]
-fn any_units(three: u8x16, two: u8x16, one: u8x16, block: u8x16) -> (u16x8, u16x8)
-    ensures { (x y a : ℕ → ℕ) → HasLanes 16 three x → HasLanes 16 two y → HasLanes 16 one a
-        → HasLanes 8 result.0 (λ k. unit_at (x k) (y k) (a k) (slice_index block k))
-        × HasLanes 8 result.1
-        (λ k. unit_at (x (8 + k)) (y (8 + k)) (a (8 + k)) (slice_index block (8 + k))) }
-{
-    join_bytes(
-        lower_bytes(two, one, block),
-        upper_bytes(three, two, one, block),
-    )
+    let longer = two.simd_ge(u8x16::splat(0xF0)).select(high, bits | low);
+    is_ascii.select(u8x16::splat(0), longer)
 }
 
 /// Returns the code unit that ends with each of the sixteen bytes from `at` on, if no character has more than N bytes,
-/// given the bytes one, two and three before each.
+/// given the bytes one, two and three before each: the first eight, and the last eight.
 #[inline(always)]
 pub(super) fn units_of_stride<const N: usize>(
     src: &[u8],
@@ -130,10 +91,10 @@ pub(super) fn units_of_stride<const N: usize>(
         × (result.1 ≡ take 8 (drop (at + 8) (units_after 0 0 0 src.now))) }
 {
     let block = u8x16::from_slice(&src[at..]);
-    if N < 4 {
-        return short_units(two, one, block);
-    }
-    any_units(three, two, one, block)
+    join_bytes(
+        lower_bytes::<N>(two, one, block),
+        upper_bytes::<N>(three, two, one, block),
+    )
 }
 
 /// Returns a bit for each of the sixteen bytes from `at` on that ends a code unit, except the first `from` and those from `to` on,
