@@ -111,7 +111,7 @@ module _ {X : Type 0} (n : ℕ) where
       let e : n + m * n ≡ suc m * n = omega arith in
       drop_firsts m j k (drop n xs) (omega (arith, is)) ∙ ap (first_chunks n j) (drop-drop (m * n) n xs ∙ ap (λ i. drop i xs) e)
 
-  joined_firsts : (k : ℕ) (xs : List X) → flat_map (λ x. x) (first_chunks n k xs) ≡ take (k * n) xs
+  pub joined_firsts : (k : ℕ) (xs : List X) → flat_map (λ x. x) (first_chunks n k xs) ≡ take (k * n) xs
   joined_firsts zero xs = let e : 0 * n ≡ 0 = omega arith in rw e refl
   joined_firsts (suc k) xs = let e : n + k * n ≡ suc k * n = omega arith in ap (λ ys. take n xs ++ ys) (joined_firsts k (drop n xs))
       ∙ sym (take-add n (k * n) xs) ∙ ap (λ m. take m xs) e

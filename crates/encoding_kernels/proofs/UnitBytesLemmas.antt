@@ -1,6 +1,6 @@
 -- Code units of bytes: each by its index, sixteen as a vector, and the bytes of code units.
 use Rattle.std.proofs.Common.{◌≡◌, ℕ, zero, suc, ◌+◌, ◌-◌, ◌*◌, ◌/◌, ◌%◌, ◌^◌, ◌<◌, ◌≤◌, Bool, true, false, List, [], ◌∷◌, ◌++◌, length, take, drop, get_or, refl, set, map, bit_and, bit_or, inl, inr, sym, ap, ◌∙◌, arith, replicate}
-use Rattle.std.proofs.lemmas.List.{get_or-take, get_or-drop, length-drop, length-map, length-take-le, get_or-map, take_more, take_rest, take_all, take_at, take-take, length-append}
+use Rattle.std.proofs.lemmas.List.{get_or-take, get_or-drop, length-drop, length-map, length-take-le, get_or-map, take_more, take_rest, take_all, take_at, take-take, length-append, drop_at, drop-drop, take-append-drop}
 use Rattle.std.proofs.Math.Seq.{drop-nil}
 use Rattle.std.proofs.lemmas.Grind.{same_number_lists}
 use Rattle.std.proofs.lemmas.Bool.{cases_lt, false≢true}
@@ -11,7 +11,10 @@ use Rattle.std.proofs.lemmas.Simd.{get_or-zip2, length-zip2}
 use Rattle.encoding_definitions.specs.Prefixes.{WritesPrefix}
 use Rattle.encoding_definitions.proofs.PrefixesLemmas.{WritesPrefix-same, WritesPrefix_push}
 use Rattle.encoding_kernels.specs.Scans.{AllBelow, BelowUpTo, HasLanes}
-use Rattle.encoding_kernels.specs.UnitBytes.{unit_of, units_of}
+use Rattle.std.proofs.lemmas.List.Concat.{flat_map-append}
+use Rattle.std.specs.Simd.{first_chunks}
+use Rattle.encoding_kernels.proofs.ScanLemmas.{joined_firsts}
+use Rattle.encoding_kernels.specs.UnitBytes.{bytes_in, unit_of, units_of}
 use Rattle.encoding_kernels.proofs.CopyLemmas.{lower_are}
 use Rattle.encoding_kernels.proofs.VectorLemmas.{HasLanes-zip2, HasLanes-splat, HasLanes_same, wide_sixteen, wide_sixteen_l}
 
@@ -42,6 +45,53 @@ units_of-fit big (a ∷ []) h k = omega (arith, h k)
 units_of-fit false (a ∷ b ∷ bs) h zero = omega (arith, h 0, h 1)
 units_of-fit true (a ∷ b ∷ bs) h zero = omega (arith, h 0, h 1)
 units_of-fit big (a ∷ b ∷ bs) h (suc k) = units_of-fit big bs (λ j. h (suc (suc j))) k
+
+-- ---- bytes in pairs
+abbrev pub ArePairs : List (List ℕ) → Type 0
+ArePairs pairs = (i : ℕ) → i < length pairs → length (get_or pairs i []) ≡ 2
+
+pub length-bytes_in : (pairs : List (List ℕ)) → ArePairs pairs → length (bytes_in pairs) ≡ 2 * length pairs
+length-bytes_in [] told = refl
+length-bytes_in (p ∷ pairs) told =
+    length-append p (bytes_in pairs) ∙ omega (arith, told 0 (omega arith), length-bytes_in pairs (λ i l. told (suc i) (omega (arith, l))))
+
+-- a pair for each code unit
+pub pairs_within : (big : Bool) (pairs : List (List ℕ)) → ArePairs pairs → length (units_of big (bytes_in pairs)) ≡ length pairs
+pairs_within big pairs told = omega (arith, length-units_of big (bytes_in pairs), length-bytes_in pairs told)
+
+pub bytes_in-drop : (n : ℕ) (pairs : List (List ℕ)) → ArePairs pairs → n ≤ length pairs → bytes_in (drop n pairs) ≡ drop (2 * n) (bytes_in pairs)
+bytes_in-drop zero pairs told l = refl
+bytes_in-drop (suc n) [] told l = absurd (omega (arith, l))
+bytes_in-drop (suc n) (p ∷ pairs) told l =
+    let twice : 2 + 2 * n ≡ 2 * suc n = omega arith in
+    bytes_in-drop n pairs (λ i m. told (suc i) (omega (arith, m))) (omega (arith, l))
+    ∙ ap (drop (2 * n)) (sym (drop_at p (bytes_in pairs) 2 (told 0 (omega arith))))
+    ∙ drop-drop (2 * n) 2 (bytes_in (p ∷ pairs))
+    ∙ ap (λ k. drop k (bytes_in (p ∷ pairs))) twice
+
+pub bytes_in-take : (n : ℕ) (pairs : List (List ℕ)) → ArePairs pairs → n ≤ length pairs → bytes_in (take n pairs) ≡ take (2 * n) (bytes_in pairs)
+bytes_in-take n pairs told l =
+    let first = bytes_in (take n pairs) in
+    let rest = bytes_in (drop n pairs) in
+    let all : bytes_in pairs ≡ first ++ rest = ap bytes_in (sym (take-append-drop n pairs)) ∙ flat_map-append (λ p. p) (take n pairs) (drop n pairs) in
+    let long : length first ≡ 2 * n =
+    omega (
+      arith,
+      length-append first rest,
+      ap length all,
+      length-bytes_in pairs told,
+      ap length (bytes_in-drop n pairs told l),
+      length-drop (2 * n) (bytes_in pairs),
+    ) in
+    sym (ap (take (2 * n)) all ∙ take_at first rest (2 * n) long)
+
+-- all pairs of bytes have all their code units
+pub units_of-chunks : (big : Bool) (bs : List ℕ) → units_of big (bytes_in (first_chunks 2 (length bs / 2) bs)) ≡ units_of big bs
+units_of-chunks big bs =
+    let half = length bs / 2 in
+    let twice : half * 2 ≡ 2 * half = omega arith in
+    ap (units_of big) (joined_firsts 2 half bs ∙ ap (λ n. take n bs) twice) ∙ units_of-take big half bs
+    ∙ take_all half (units_of big bs) (omega (arith, length-units_of big bs))
 
 -- what is left after n code units
 pub units_of-rest : (big : Bool) (n : ℕ) (bs : List ℕ) → 2 * n ≤ length bs

@@ -93,13 +93,14 @@ pub fn convert_utf16_bytes_to_utf8_up_to_surrogate(
         → drop result.0 src.now ≡ unit_bytes order scalar ++ rest
         → length dst.old < result.1 + length (encode_utf8 scalar) }
 {
+    let (pairs, _) = src.as_chunks::<2>();
     match order {
         ByteOrder::LittleEndian => {
-            let (units, written) = convert_up_to_surrogate(UnitBytes::<false> { src }, dst);
+            let (units, written) = convert_up_to_surrogate(UnitBytes::<false> { pairs }, dst);
             (2 * units, written)
         }
         ByteOrder::BigEndian => {
-            let (units, written) = convert_up_to_surrogate(UnitBytes::<true> { src }, dst);
+            let (units, written) = convert_up_to_surrogate(UnitBytes::<true> { pairs }, dst);
             (2 * units, written)
         }
     }

@@ -1,23 +1,51 @@
 //! UTF-16LE and UTF-16BE, whose code units are two bytes each, by vectors of sixteen code units. `big` says that the more
 //! significant byte comes first.
 
-ghost use Rattle.std.specs.Prelude.{◌≡◌, ℕ, List, ◌+◌, ◌*◌, ◌<◌, ◌≤◌, ◌++◌, IsTrue, length, take, drop, slice_index};
+ghost use Rattle.std.specs.Prelude.{◌≡◌, ℕ, List, ◌+◌, ◌-◌, ◌*◌, ◌<◌, ◌≤◌, ◌++◌, IsTrue, length, take, drop, slice_index};
 ghost use Rattle.encoding_definitions.specs.Prefixes.{WritesPrefix};
 ghost use Rattle.encoding_definitions.specs.Utf16.{AreCodeUnits};
 ghost use Rattle.encoding_kernels.specs.Scans.{AllBelow, BelowUpTo};
-ghost use Rattle.encoding_kernels.specs.UnitBytes.{units_of};
+ghost use Rattle.encoding_kernels.specs.UnitBytes.{bytes_in, units_of};
 
 use crate::simd::width::{BASIC_LATIN_END, STRIDE, UNIT_BLOCK};
 use crate::utf16_to_utf8::two_byte::are_ascii;
 use std::simd::prelude::*;
 
+/// Says that two bytes make a code unit.
+#[inline(always)]
+fn are_code_units(big: bool, src: &[u8])
+    ensures { AreCodeUnits (units_of big src.now) }
+{}
+
 /// Returns how many code units there are.
 #[inline(always)]
-pub(super) fn count_units(big: bool, src: &[u8]) -> usize
-    ensures count { result ≡ length (units_of big src.now) }
-    ensures code_units { AreCodeUnits (units_of big src.now) }
+pub(super) fn count_units(big: bool, pairs: &[[u8; 2]]) -> usize
+    ensures count { result ≡ length (units_of big (bytes_in pairs.now)) }
+    ensures code_units { AreCodeUnits (units_of big (bytes_in pairs.now)) }
 {
-    src.len() / 2
+    are_code_units(big, pairs.as_flattened());
+    pairs.len()
+}
+
+/// Returns the bytes of the code units from index `at` on.
+#[inline(always)]
+pub(super) fn skip_units(big: bool, pairs: &[[u8; 2]], at: usize) -> &[[u8; 2]]
+    requires { at ≤ length (units_of big (bytes_in pairs.now)) }
+    ensures { units_of big (bytes_in result.now)
+        ≡ take (length (units_of big (bytes_in pairs.now)) - at)
+        (drop at (units_of big (bytes_in pairs.now))) }
+{
+    &pairs[at..]
+}
+
+/// Returns the bytes of the first `count` code units.
+#[inline(always)]
+pub(super) fn first_units(big: bool, pairs: &[[u8; 2]], count: usize) -> &[[u8; 2]]
+    requires { count ≤ length (units_of big (bytes_in pairs.now)) }
+    ensures { units_of big (bytes_in result.now)
+        ≡ take count (units_of big (bytes_in pairs.now)) }
+{
+    &pairs[..count]
 }
 
 /// Returns the sixteen code units from index `at` on.

@@ -4,7 +4,7 @@
 ghost use Rattle.std.specs.Prelude.{◌≡◌, ◌+◌, ◌-◌, ◌<◌, ◌≤◌, ℕ, List, length, take, drop, slice_index};
 ghost use Rattle.encoding_definitions.specs.Utf16.{AreCodeUnits};
 
-use super::bytes::{count_units, first_sixteen, sixteen_units, unit_at};
+use super::bytes::{count_units, first_sixteen, first_units, sixteen_units, skip_units, unit_at};
 use crate::simd::width::STRIDE;
 use std::simd::prelude::*;
 
@@ -102,48 +102,48 @@ impl<'a> CodeUnits for Units<'a> {
     }
 }
 
-/// The bytes of code units. `BIG` says that the more significant byte of each comes first. The last byte of an odd number is none.
+/// The bytes of code units, two for each. `BIG` says that the more significant one comes first.
 #[derive(Clone, Copy, Drop)]
 pub struct UnitBytes<'a, const BIG: bool> {
-    pub src: &'a [u8],
+    pub pairs: &'a [[u8; 2]],
 }
 
 impl<'a, const BIG: bool> CodeUnits for UnitBytes<'a, BIG> {
-    ghost use Rattle.encoding_kernels.specs.UnitBytes.{units_of};
+    ghost use Rattle.encoding_kernels.specs.UnitBytes.{bytes_in, units_of};
 
-    ghost units = { λ s. units_of BIG s.src.now };
+    ghost units = { λ s. units_of BIG (bytes_in s.pairs.now) };
 
     #[inline(always)]
     fn count(self) -> usize {
-        count_units(BIG, self.src)
+        count_units(BIG, self.pairs)
     }
 
     #[inline(always)]
     fn unit_at(self, at: usize) -> u16 {
-        unit_at(BIG, self.src, at)
+        unit_at(BIG, self.pairs.as_flattened(), at)
     }
 
     #[inline(always)]
     fn sixteen(self, at: usize) -> u16x16 {
-        sixteen_units(BIG, self.src, at)
+        sixteen_units(BIG, self.pairs.as_flattened(), at)
     }
 
     #[inline(always)]
     fn first_sixteen(self) -> u16x16 {
-        first_sixteen(BIG, self.src)
+        first_sixteen(BIG, self.pairs.as_flattened())
     }
 
     #[inline(always)]
     fn skip(self, at: usize) -> UnitBytes<'a, BIG> {
         UnitBytes {
-            src: &self.src[2 * at..],
+            pairs: skip_units(BIG, self.pairs, at),
         }
     }
 
     #[inline(always)]
     fn first(self, count: usize) -> UnitBytes<'a, BIG> {
         UnitBytes {
-            src: &self.src[..2 * count],
+            pairs: first_units(BIG, self.pairs, count),
         }
     }
 }

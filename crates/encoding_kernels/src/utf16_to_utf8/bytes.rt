@@ -4,7 +4,7 @@ ghost use Rattle.std.specs.Prelude.{◌≡◌, ◌+◌, ◌*◌, ◌<◌, ◌≤
 ghost use Rattle.std.specs.Char.{IsScalar};
 ghost use Rattle.encoding_definitions.specs.Prefixes.{WritesPrefix};
 ghost use Rattle.encoding_kernels.specs.Scans.{BelowUpTo};
-ghost use Rattle.encoding_kernels.specs.UnitBytes.{units_of};
+ghost use Rattle.encoding_kernels.specs.UnitBytes.{bytes_in, units_of};
 ghost use Rattle.encoding_kernels.specs.Utf8Output.{WritesBmp};
 
 use super::text::convert_blocks;
@@ -16,16 +16,10 @@ use crate::utf16::source::{CodeUnits, UnitBytes};
 /// Copies the ASCII prefix of `src`, each code unit as a byte, as far as `dst` holds it. Returns its length.
 #[inline(always)]
 fn copy_ascii<const BIG: bool>(src: UnitBytes<'_, BIG>, dst: &mut [u8]) -> usize
-    ensures { WritesBmp (units_of BIG src.entry.src.now) dst.old dst.new result result }
+    ensures { WritesBmp (units_of BIG (bytes_in src.entry.pairs.now)) dst.old dst.new result result }
 {
     let count = src.count().min(dst.len());
-    copy_ascii_units(BIG, src.src, &mut dst[..count])
-}
-
-/// Returns whether the code unit at index `at` is ASCII. None is at the end.
-#[inline(always)]
-fn is_ascii_at<const BIG: bool>(src: UnitBytes<'_, BIG>, at: usize) -> bool {
-    at < src.count() && src.unit_at(at) < BASIC_LATIN_END
+    copy_ascii_units(BIG, src.pairs.as_flattened(), &mut dst[..count])
 }
 
 /// Converts ASCII and blocks of other code units from the start of `src` by turns, until a surrogate is next or the end of `src`
@@ -35,8 +29,9 @@ fn convert_ascii_and_blocks<const BIG: bool>(
     src: UnitBytes<'_, BIG>,
     dst: &mut [u8],
 ) -> (usize, usize)
-    ensures { WritesBmp (units_of BIG src.entry.src.now) dst.old dst.new result.0 result.1 }
+    ensures { WritesBmp (units_of BIG (bytes_in src.entry.pairs.now)) dst.old dst.new result.0 result.1 }
 {
+    let count = src.count();
     let mut read = 0;
     let mut written = 0;
     loop {
@@ -46,7 +41,7 @@ fn convert_ascii_and_blocks<const BIG: bool>(
         let (units, bytes) = convert_blocks::<_, true>(src.skip(read), &mut dst[written..]);
         read += units;
         written += bytes;
-        if units == 0 || !is_ascii_at(src, read) {
+        if units == 0 || read == count || src.unit_at(read) >= BASIC_LATIN_END {
             return (read, written);
         }
     }
@@ -58,12 +53,12 @@ pub fn convert_up_to_surrogate<const BIG: bool>(
     src: UnitBytes<'_, BIG>,
     dst: &mut [u8],
 ) -> (usize, usize)
-    ensures converted { WritesBmp (units_of BIG src.entry.src.now) dst.old dst.new
+    ensures converted { WritesBmp (units_of BIG (bytes_in src.entry.pairs.now)) dst.old dst.new
         result.0 result.1 }
-    ensures stops { result.0 < length (units_of BIG src.entry.src.now)
-        → IsScalar (slice_index (units_of BIG src.entry.src.now) result.0)
+    ensures stops { result.0 < length (units_of BIG (bytes_in src.entry.pairs.now))
+        → IsScalar (slice_index (units_of BIG (bytes_in src.entry.pairs.now)) result.0)
         → length dst.old < result.1
-        + length (encode_utf8 (slice_index (units_of BIG src.entry.src.now) result.0)) }
+        + length (encode_utf8 (slice_index (units_of BIG (bytes_in src.entry.pairs.now)) result.0)) }
 {
     let (mut read, mut written) = convert_ascii_and_blocks(src, dst);
     while read < src.count() {

@@ -1,6 +1,6 @@
-use Rattle.std.proofs.Common.{◌≡◌, ◌+◌, ◌≤◌, inl, inr, length, take, ap, arith}
+use Rattle.std.proofs.Common.{◌≡◌, inl, inr, arith}
 use Rattle.std.proofs.lemmas.Bool.{cases_lt}
-use Rattle.encoding_definitions.proofs.PrefixesLemmas.{WritesPrefix-length, WritesPrefix-same}
+use Rattle.encoding_definitions.proofs.PrefixesLemmas.{WritesPrefix-length}
 use Rattle.encoding_kernels.specs.UnitBytes.{units_of}
 use Rattle.encoding_kernels.proofs.ScanLemmas.{WritesPrefix_block}
 use Rattle.encoding_kernels.proofs.UnitBytesLemmas.{below_joined, length-units_of, one_unit_more}

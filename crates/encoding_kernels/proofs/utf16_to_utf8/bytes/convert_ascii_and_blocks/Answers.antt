@@ -1,7 +1,4 @@
 use Rattle.std.proofs.Common.{arith, refl}
-use denote.Param.{number}
-use Rattle.encoding_kernels.specs.contracts.utf16_to_utf8.bytes.convert_ascii_and_blocks.{BIG-type}
-use Rattle.encoding_kernels.proofs.UnitBytesLemmas.{length-units_of}
 use Rattle.encoding_kernels.proofs.Utf16ToUtf8Lemmas.{bmp_more, writes_none}
 use Rattle.encoding_kernels.proofs.utf16_to_utf8.bytes.convert_ascii_and_blocks.Goals as goal
 
@@ -27,10 +24,10 @@ returns-then-units-eq0 g c =
 pub overflow_add-read : goal.overflow_add-read
 overflow_add-read g c =
     let ascii = bmp_more c.skip.ensures c.loop-src.invariant c.copy_ascii-ascii.ensures in
-    omega (arith, ascii.within, c.ranges.src, length-units_of (BIG-type (number g.row.BIG)) c.args.src.src.now)
+    omega (arith, ascii.within, c.count-count.ensures.count)
 
 pub overflow_add-read-in-loop-src : goal.overflow_add-read-in-loop-src
 overflow_add-read-in-loop-src g c =
     let ascii = bmp_more c.skip.ensures c.loop-src.invariant c.copy_ascii-ascii.ensures in
     let all = bmp_more c.skip-in-loop-src.ensures ascii (c.convert_blocks-units.ensures.restored refl) in
-    omega (arith, all.within, c.ranges.src, length-units_of (BIG-type (number g.row.BIG)) c.args.src.src.now)
+    omega (arith, all.within, c.count-count.ensures.count)

@@ -1,12 +1,12 @@
 use Rattle.std.proofs.Common.{◌-◌, length}
 use denote.Param.{number}
-use Rattle.encoding_kernels.specs.UnitBytes.{units_of}
+use Rattle.encoding_kernels.specs.UnitBytes.{bytes_in, units_of}
 use Rattle.encoding_kernels.specs.Utf8Output.{WritesBmp}
 use Rattle.encoding_kernels.specs.contracts.utf16_to_utf8.bytes.convert_up_to_surrogate.{BIG-type}
 use Rattle.encoding_kernels.proofs.utf16_to_utf8.bytes.convert_up_to_surrogate.Given as goal
 
 abbrev pub invariant-loop-read : goal.invariant-loop-read
-invariant-loop-read g l = WritesBmp (units_of (BIG-type (number g.row.BIG)) l.src.src.now) l.fn.dst l.dst l.read l.written
+invariant-loop-read g l = WritesBmp (units_of (BIG-type (number g.row.BIG)) (bytes_in l.src.pairs.now)) l.fn.dst l.dst l.read l.written
 
 abbrev pub decreases-loop-read : goal.decreases-loop-read
-decreases-loop-read g l = length (units_of (BIG-type (number g.row.BIG)) l.src.src.now) - l.read
+decreases-loop-read g l = length (units_of (BIG-type (number g.row.BIG)) (bytes_in l.src.pairs.now)) - l.read

@@ -1,8 +1,14 @@
-use Rattle.std.proofs.Common.{arith}
+use Rattle.std.proofs.Common.{ap, length, arith}
 use denote.Param.{number}
+use Rattle.encoding_kernels.specs.UnitBytes.{bytes_in}
 use Rattle.encoding_kernels.specs.contracts.utf16.source.UnitBytesCodeUnits.TheImpl.{BIG-type}
 use Rattle.encoding_kernels.proofs.UnitBytesLemmas.{length-units_of}
 use Rattle.encoding_kernels.proofs.utf16.source.UnitBytesCodeUnits.sixteen.Goals as goal
 
 pub sixteen_units-requires : goal.sixteen_units-requires
-sixteen_units-requires g c = omega (arith, c.requires, length-units_of (BIG-type (number g.row.BIG)) c.args.self.src.now)
+sixteen_units-requires g c = omega (
+  arith,
+  c.requires,
+  length-units_of (BIG-type (number g.row.BIG)) (bytes_in c.args.self.pairs.now),
+  ap length c.as_flattened.ensures.value,
+)
