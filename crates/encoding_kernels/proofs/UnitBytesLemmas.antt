@@ -1,5 +1,5 @@
 -- Code units of bytes: each by its index, sixteen as a vector, and the bytes of code units.
-use Rattle.std.proofs.Common.{◌≡◌, ℕ, zero, suc, ◌+◌, ◌-◌, ◌*◌, ◌/◌, ◌%◌, ◌^◌, ◌<◌, ◌≤◌, Bool, true, false, List, [], ◌∷◌, ◌++◌, length, take, drop, get_or, refl, set, map, bit_and, bit_or, inl, inr, sym, ap, ◌∙◌, arith, replicate}
+use Rattle.std.proofs.Common.{take-add, ◌≡◌, ℕ, zero, suc, ◌+◌, ◌-◌, ◌*◌, ◌/◌, ◌%◌, ◌^◌, ◌<◌, ◌≤◌, Bool, true, false, List, [], ◌∷◌, ◌++◌, length, take, drop, get_or, refl, set, map, bit_and, bit_or, inl, inr, sym, ap, ◌∙◌, arith, replicate}
 use Rattle.std.proofs.lemmas.List.{get_or-take, get_or-drop, length-drop, length-map, length-take-le, get_or-map, take_more, take_rest, take_all, take_at, take-take, length-append, drop_at, drop-drop, take-append-drop}
 use Rattle.std.proofs.Math.Seq.{drop-nil}
 use Rattle.std.proofs.lemmas.Grind.{same_number_lists}
@@ -204,6 +204,16 @@ sixteen_below big bs us at bound e h = λ k from to.
     ∙ get_or-take 16 (drop at (units_of big bs)) (k - at) 0 (omega arith)
     ∙ get_or-drop at (units_of big bs) (k - at) 0 ∙ ap (λ i. get_or (units_of big bs) i 0) place in
     omega (arith, same, h (k - at) (omega arith))
+
+-- twice sixteen in a row
+pub two_sixteens : (us a b : List ℕ) (at : ℕ) → a ≡ take 16 (drop at us) → b ≡ take 16 (drop (at + 16) us) → a ++ b ≡ take 32 (drop at us)
+two_sixteens us a b at e f =
+    (λ i. e i ++ f i) ∙ ap (λ xs. take 16 (drop at us) ++ take 16 xs) (sym (drop-drop 16 at us)) ∙ sym (take-add 16 16 (drop at us))
+
+pub two_ascii : (us both : List ℕ) (at : ℕ) → both ≡ take 32 (drop at us) → AllBelow 0x80 us at 32 → (k : ℕ) → k < 32 → get_or both k 0 < 0x80
+two_ascii us both at e below k l =
+    let same : get_or both k 0 ≡ get_or us (at + k) 0 = ap (λ xs. get_or xs k 0) e ∙ get_or-take 32 (drop at us) k 0 l ∙ get_or-drop at us k 0 in
+    omega (arith, same, below (at + k) (omega arith) (omega arith))
 
 -- their lower bytes, if they are ASCII
 pub packed : (big : Bool) (bs us : List ℕ) (at : ℕ) → 2 * at + 32 ≤ length bs → us ≡ take 16 (drop at (units_of big bs)) → AllBelow 0x80 (units_of big bs) at 16

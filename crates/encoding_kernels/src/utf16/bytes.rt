@@ -124,7 +124,26 @@ fn pack_sixteen(big: bool, src: &[u8], dst: &mut [u8], at: usize)
     lower.cast::<u8>().copy_to_slice(&mut dst[at..]);
 }
 
-/// Copies the 64 code units from index `at` on to the same index, each as a byte.
+/// Writes twice sixteen ASCII code units from `at` on, each as a byte: of as many, AVX2 packs a whole vector at once.
+#[inline(always)]
+fn pack_two(first: u16x16, second: u16x16, dst: &mut [u8], at: usize)
+    requires within { at + 32 ≤ length dst.old }
+    requires ascii { (k : ℕ) → k < 32 → slice_index (first ++ second) k < 0x80 }
+    ensures { dst.new ≡ take at dst.old ++ ((first ++ second) ++ drop (at + 32) dst.old) }
+{
+    let units = first.shuffle(
+        second,
+        [
+            0, 1, 2, 3, 4, 5, 6, 7, 8, 9, 10, 11, 12, 13, 14, 15, 16, 17, 18, 19, 20, 21, 22, 23,
+            24, 25, 26, 27, 28, 29, 30, 31,
+        ],
+    );
+    let lower = units & u16x32::splat(0xFF);
+    lower.cast::<u8>().copy_to_slice(&mut dst[at..]);
+}
+
+/// Copies the 64 code units from index `at` on to the same index, each as a byte. All are loaded before the first store, so that
+/// none is loaded again after a test.
 #[inline(always)]
 fn pack_64(big: bool, src: &[u8], dst: &mut [u8], at: usize)
     requires within { (2 * at + 128 ≤ length src.now) × (at + 64 ≤ length dst.old) }
@@ -133,10 +152,12 @@ fn pack_64(big: bool, src: &[u8], dst: &mut [u8], at: usize)
         → WritesPrefix before dst.old at (take at (units_of big src.now))
         → WritesPrefix before dst.new (at + 64) (take (at + 64) (units_of big src.now)) }
 {
-    pack_sixteen(big, src, dst, at);
-    pack_sixteen(big, src, dst, at + STRIDE);
-    pack_sixteen(big, src, dst, at + 2 * STRIDE);
-    pack_sixteen(big, src, dst, at + 3 * STRIDE);
+    let first = sixteen_units(big, src, at);
+    let second = sixteen_units(big, src, at + STRIDE);
+    let third = sixteen_units(big, src, at + 2 * STRIDE);
+    let fourth = sixteen_units(big, src, at + 3 * STRIDE);
+    pack_two(first, second, dst, at);
+    pack_two(third, fourth, dst, at + 2 * STRIDE);
 }
 
 /// Copies the longest ASCII prefix of as many code units as `dst` holds, each as a byte, and returns its length.
