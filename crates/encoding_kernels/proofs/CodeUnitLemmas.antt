@@ -30,6 +30,23 @@ HasLanes-after zs v n =
     let last : length (lanes_from v n) ≡ n = length-map (range_with_len 0 n) (λ j. get_or v j 0) ∙ length-range_with_len 0 n in
     record { long = omega (arith, length-append zs (lanes_from v n), last); each = after_lanes zs v n }
 
+-- in a text that begins with the vector
+pub zeros_before : (n : ℕ) (src v zs : List ℕ) (at : ℕ) → at ≡ 0 → n ≤ length src → HasLanes n v (λ k. get_or (zs ++ take n src) k 0)
+    → HasLanes n v (λ k. get_or (zs ++ src) (at + k) 0)
+zeros_before n src v zs at first room h = HasLanes_same h (λ k l. prefix zs k (omega arith) ∙ ap (λ j. get_or (zs ++ src) j 0) (omega arith))
+  where
+    prefix : (zs : List ℕ) (k : ℕ) → k < length zs + n → get_or (zs ++ take n src) k 0 ≡ get_or (zs ++ src) k 0
+    prefix [] k l = get_or-take n src k 0 (omega arith)
+    prefix (z ∷ zs) zero l = refl
+    prefix (z ∷ zs) (suc k) l = prefix zs k (omega arith)
+
+-- at an index of it
+pub loaded_before : (n : ℕ) (src zs : List ℕ) (at : ℕ) → length zs ≤ at → at + n ≤ length src
+    → HasLanes n (chunk (at - length zs) n src) (λ k. get_or (zs ++ src) (at + k) 0)
+loaded_before n src zs at some room = HasLanes_same (HasLanes_load (at - length zs) n src (omega arith)) (λ k l.
+    let e : at - length zs + k ≡ at + k - length zs = omega arith in
+    ap (λ j. get_or src j 0) e ∙ sym (get_or-append_right zs src (length zs) (at + k) 0 refl (omega arith)))
+
 -- the same for a prefix of any length
 below_after : (b n : ℕ) (v : List ℕ) → 0 < b → BelowUpTo b v n → BelowUpTo b (0 ∷ v) (n + 1)
 below_after b n v some low zero l = some

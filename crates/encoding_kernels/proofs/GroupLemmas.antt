@@ -2,7 +2,7 @@
 use Rattle.std.proofs.Common.{◌≡◌, ◌&&◌, ℕ, not, eqb, leb, bit_and, zero, suc, ◌+◌, ◌-◌, ◌/◌, ◌<◌, ◌≤◌, inl, inr, Bool, true, false, if◌then◌else◌, ltb, List, [], ◌∷◌, ◌++◌, map, length, replicate, take, drop, get_or, refl, sym, ap, ◌∙◌, arith, subst, take-add, append_assoc, drop-drop, w16}
 use Rattle.std.specs.List.{range_with_len}
 use Rattle.std.specs.Str.{IsUtf8, IsCharBoundary, chars}
-use Rattle.std.specs.Simd.Lanes.{chunk, pick_l, put_chunk, mask_l, sel_l, top, zip2}
+use Rattle.std.specs.Simd.Lanes.{pick_l, put_chunk, mask_l, sel_l, top, zip2}
 use Rattle.std.specs.Int.RustNames.{count_ones}
 use Rattle.std.proofs.lemmas.Bool.{cases_lt, cond-true, cond-false, lt-ltb, le-ltb, ltb-true, and_parts, leb-true, not-false}
 use borrow.Rule.Slice.PartMut.{put_mid}
@@ -11,7 +11,7 @@ use Rattle.std.proofs.lemmas.List.{append-nil, drop_all, drop_at, drop-append-le
 use Rattle.std.proofs.lemmas.Bool.Decides.{nat_tests}
 use Rattle.encoding_kernels.specs.Scans.{BelowBetween, HasLanes}
 use Rattle.encoding_kernels.specs.EndingUnits.{BeginsThree, NoUnitEnds, StoresUnits, WritesCompressed, WritesUtf16, ends_after, compressed_places, ends_unit, keep, unit_at, units_after}
-use Rattle.encoding_kernels.proofs.VectorLemmas.{HasLanes_load, HasLanes_same, compared, same_below}
+use Rattle.encoding_kernels.proofs.VectorLemmas.{compared, same_below}
 use Rattle.std.specs.Char.Escape.{encode_utf16}
 use Rattle.std.specs.List.{flat_map}
 use Rattle.std.proofs.lemmas.Str.{IsCharBoundary-at_seam, IsUtf8-append, IsUtf8-take, IsUtf8-drop}
@@ -84,22 +84,6 @@ below_each bound src lanes greatest below k l m = elim (cases_lt k 32) [
 
     at : (from : ℕ) → get_or src (from + (k - from)) 0 < bound → from ≤ k → get_or src k 0 < bound
     at from b h = let there : from + (k - from) ≡ k = omega arith in subst (λ j. get_or src j 0 < bound) there b
-
--- ---- the bytes before each of a stride
-pub zeros_before : (src v zs : List ℕ) (at : ℕ) → at ≡ 0 → 16 ≤ length src → HasLanes 16 v (λ k. get_or (zs ++ take 16 src) k 0)
-    → HasLanes 16 v (λ k. get_or (zs ++ src) (at + k) 0)
-zeros_before src v zs at first room h = HasLanes_same h (λ k l. prefix zs k (omega arith) ∙ ap (λ j. get_or (zs ++ src) j 0) (omega arith))
-  where
-    prefix : (zs : List ℕ) (k : ℕ) → k < length zs + 16 → get_or (zs ++ take 16 src) k 0 ≡ get_or (zs ++ src) k 0
-    prefix [] k l = get_or-take 16 src k 0 l
-    prefix (z ∷ zs) zero l = refl
-    prefix (z ∷ zs) (suc k) l = prefix zs k (omega arith)
-
-pub loaded_before : (src zs : List ℕ) (at : ℕ) → length zs ≤ at → at + 16 ≤ length src
-    → HasLanes 16 (chunk (at - length zs) 16 src) (λ k. get_or (zs ++ src) (at + k) 0)
-loaded_before src zs at some room = HasLanes_same (HasLanes_load (at - length zs) 16 src (omega arith)) (λ k l.
-    let e : at - length zs + k ≡ at + k - length zs = omega arith in
-    ap (λ j. get_or src j 0) e ∙ sym (get_or-append_right zs src (length zs) (at + k) 0 refl (omega arith)))
 
 -- ---- a stride
 pub stride_marks : (src : List ℕ) (at : ℕ) → at + 16 ≤ length src → length (take 16 (drop at (ends_after 0 src))) ≡ 16

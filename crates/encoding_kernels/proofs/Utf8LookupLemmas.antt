@@ -1,21 +1,22 @@
 -- The vector operations of the test, lane by lane: what the three lookups say about two adjacent bytes, and what a lane
 -- that is zero says about four.
-use Rattle.std.proofs.Common.{◌≡◌, ℕ, ◌+◌, ◌-◌, ◌*◌, ◌/◌, ◌<◌, ◌≤◌, ◌⊎◌, inl, inr, Bool, true, ◌&&◌, ◌||◌, ◌==◌, if◌then◌else◌, sym, false, map, [], get_or, bit_and, bit_or, bit_xor, refl, arith, nat_le, nat_lt, eq-eqb, ◌%◌, ◌^◌, cond, ltb, List, ◌++◌, take, length, replicate, ap, ◌∙◌, w8, Fits}
+use Rattle.std.proofs.Common.{◌≡◌, ℕ, ◌+◌, ◌-◌, ◌*◌, ◌/◌, ◌<◌, ◌≤◌, ◌⊎◌, inl, inr, Bool, true, ◌&&◌, ◌||◌, ◌==◌, if◌then◌else◌, sym, subst, zero, suc, ◌∷◌, false, map, [], get_or, bit_and, bit_or, bit_xor, refl, arith, nat_le, nat_lt, eq-eqb, ◌%◌, ◌^◌, cond, ltb, List, ◌++◌, take, length, replicate, ap, ◌∙◌, w8, Fits}
 use Rattle.std.proofs.lemmas.Bool.{and_parts, cases_lt, true≢false}
 use Rattle.std.proofs.lemmas.Bool.Decides.{nat_tests}
 use Rattle.std.proofs.lemmas.Nat.Bits.{and_pow, bit_at_or}
 use Rattle.std.specs.List.{range_with_len}
 use Rattle.encoding_kernels.specs.declared.utf8.lookups.TheConstants.{BYTE_1_HIGH, BYTE_1_LOW, BYTE_2_HIGH}
-use Rattle.encoding_kernels.specs.Following.{IsValidAfter}
+use Rattle.encoding_kernels.specs.Following.{IsValidAfter, IsValidAt}
 use Rattle.encoding_definitions.specs.Sequence.{IsContinuation, IsSecond}
 use Rattle.encoding_definitions.proofs.SequenceLemmas.{is_second}
-use Rattle.encoding_kernels.proofs.VectorLemmas.{same_below, HasLanes-itself, HasLanes_same, HasLanes-splat, HasLanes-zip2, compared}
+use Rattle.encoding_kernels.proofs.VectorLemmas.{same_below, HasLanes-itself, HasLanes_load, HasLanes_same, HasLanes-splat, HasLanes-zip2, compared}
 use Rattle.std.proofs.lemmas.List.{length-take-le, get_or-append_right, get_or-take}
 use Rattle.std.proofs.lemmas.Nat.{and_le_r}
 use Rattle.std.proofs.lemmas.Simd.{get_or-chunk, Each1-get_or, Each1-from_get_or, SwzOk, SwzOk-from_below, swz_l, length-swz_l, get_or-swz_l_below}
 use lib.Lanes.{zip2, chunk, sel_l, top, Each1}
 use Rattle.encoding_kernels.specs.Scans.{HasLanes}
 use Rattle.encoding_kernels.proofs.MaskLemmas.{chosen_by, tests_of}
+use Rattle.encoding_kernels.proofs.Utf8ValidationLemmas.{IsValidAt-lanes}
 
 -- ---- two bytes
 -- the errors that the tables leave for a byte a and a following byte with the high nibble h
@@ -228,8 +229,38 @@ module _ (n : ℕ) (w : IsWidth n) (x y a b : List ℕ) (X : IsLanes n x) (Y : I
       let following = looked_up n w (high_halves n w b B) (high_small n w b B) BYTE_2_HIGH refl refl in
       HasLanes-zip2 bit_xor (HasLanes-zip2 bit_and thirds (HasLanes-splat n 0x80)) (HasLanes-zip2 bit_and previous following)
 
-  pub lanes_follow : (i : ℕ) → i < n → get_or (lanes n x y a b) i 0 ≡ 0 → IsValidAfter (get_or x i 0) (get_or y i 0) (get_or a i 0) (get_or b i 0)
+  lanes_follow : (i : ℕ) → i < n → get_or (lanes n x y a b) i 0 ≡ 0 → IsValidAfter (get_or x i 0) (get_or y i 0) (get_or a i 0) (get_or b i 0)
   lanes_follow i l e = lane_follows _ _ _ _ (byte n x X i l) (byte n y Y i l) (byte n a A i l) (byte n b B i l) (sym (lanes_are.each i l) ∙ e)
 
-  pub lanes_long : length (lanes n x y a b) ≡ n
+  lanes_long : length (lanes n x y a b) ≡ n
   lanes_long = lanes_are.long
+
+-- ---- the same for a text
+lanes_fit : (n : ℕ) {v : List ℕ} {f : ℕ → ℕ} → HasLanes n v f → ((k : ℕ) → Fits w8 (f k)) → IsLanes n v
+lanes_fit n {v} h fits = (h.long, Each1-from_get_or (Fits w8) v 0 (λ i l. subst (Fits w8) (sym (h.each i (omega (arith, h.long)))) (fits i)))
+
+zero_fits : (xs : List ℕ) → ((i : ℕ) → Fits w8 (get_or xs i 0)) → (i : ℕ) → Fits w8 (get_or (0 ∷ xs) i 0)
+zero_fits xs fits zero = record { fits = omega arith }
+zero_fits xs fits (suc i) = fits i
+
+module _ (n : ℕ) (w : IsWidth n) (bs : List ℕ) (at : ℕ) (room : at + n ≤ length bs) (fits : (i : ℕ) → Fits w8 (get_or bs i 0)) {three two one : List ℕ}
+    (x : HasLanes n three (λ k. get_or (0 ∷ 0 ∷ 0 ∷ bs) (at + k) 0)) (y : HasLanes n two (λ k. get_or (0 ∷ 0 ∷ bs) (at + k) 0))
+    (a : HasLanes n one (λ k. get_or (0 ∷ bs) (at + k) 0)) where
+  pub are_bytes : IsLanes n (chunk at n bs)
+  are_bytes = lanes_fit n (HasLanes_load at n bs room) (λ k. fits (at + k))
+
+  pub are_previous : IsLanes n one
+  are_previous = lanes_fit n a (λ k. zero_fits bs fits (at + k))
+
+  are_thirds : IsLanes n two
+  are_thirds = lanes_fit n y (λ k. zero_fits (0 ∷ bs) (zero_fits bs fits) (at + k))
+
+  are_fourths : IsLanes n three
+  are_fourths = lanes_fit n x (λ k. zero_fits (0 ∷ 0 ∷ bs) (zero_fits (0 ∷ bs) (zero_fits bs fits)) (at + k))
+
+  pub text_lanes_long : length (lanes n three two one (chunk at n bs)) ≡ n
+  text_lanes_long = lanes_long n w three two one (chunk at n bs) are_fourths are_thirds are_previous are_bytes
+
+  pub text_lanes_follow : (i : ℕ) → i < n → get_or (lanes n three two one (chunk at n bs)) i 0 ≡ 0 → IsValidAt bs (at + i)
+  text_lanes_follow i l e =
+      IsValidAt-lanes n bs at x y a i l (lanes_follow n w three two one (chunk at n bs) are_fourths are_thirds are_previous are_bytes i l e)

@@ -120,21 +120,13 @@ moved : {x y a b x2 y2 a2 b2 : ℕ} → x ≡ x2 → y ≡ y2 → a ≡ a2 → b
 moved {x} {y} {a} {b} {x2} {y2} {a2} {b2} p q r s f =
     subst (λ k. IsValidAfter k y2 a2 b2) p (subst (λ k. IsValidAfter x k a2 b2) q (subst (λ k. IsValidAfter x y k b2) r (subst (IsValidAfter x y a) s f)))
 
--- lanes of four loads
-pub IsValidAt-loads : (n : ℕ) (bs : List ℕ) (at i : ℕ) → 3 ≤ at → i < n
-    → IsValidAfter (get_or (chunk (at - 3) n bs) i 0) (get_or (chunk (at - 2) n bs) i 0) (get_or (chunk (at - 1) n bs) i 0) (get_or (chunk at n bs) i 0)
-    → IsValidAt bs (at + i)
-IsValidAt-loads n bs at i h l f =
-    let x : get_or (chunk (at - 3) n bs) i 0 ≡ get_or (0 ∷ 0 ∷ 0 ∷ bs) (at + i) 0 = get_or-chunk (at - 3) n bs i 0 l ∙ ap (λ k. get_or bs k 0) (omega arith)
-    ∙ sym (three_before bs (at + i) (omega arith)) in
-    let y : get_or (chunk (at - 2) n bs) i 0 ≡ get_or (0 ∷ 0 ∷ bs) (at + i) 0 = get_or-chunk (at - 2) n bs i 0 l ∙ ap (λ k. get_or bs k 0) (omega arith)
-    ∙ sym (two_before bs (at + i) (omega arith)) in
-    let a : get_or (chunk (at - 1) n bs) i 0 ≡ get_or (0 ∷ bs) (at + i) 0 = get_or-chunk (at - 1) n bs i 0 l ∙ ap (λ k. get_or bs k 0) (omega arith)
-    ∙ sym (one_before bs (at + i) (omega arith)) in
-    let b : get_or (chunk at n bs) i 0 ≡ get_or bs (at + i) 0 = get_or-chunk at n bs i 0 l in
-    moved x y a b f
+-- lanes of a load, and of those before it
+pub IsValidAt-lanes : (n : ℕ) (bs : List ℕ) (at : ℕ) {three two one : List ℕ} → HasLanes n three (λ k. get_or (0 ∷ 0 ∷ 0 ∷ bs) (at + k) 0)
+    → HasLanes n two (λ k. get_or (0 ∷ 0 ∷ bs) (at + k) 0) → HasLanes n one (λ k. get_or (0 ∷ bs) (at + k) 0) → (i : ℕ) → i < n
+    → IsValidAfter (get_or three i 0) (get_or two i 0) (get_or one i 0) (get_or (chunk at n bs) i 0) → IsValidAt bs (at + i)
+IsValidAt-lanes n bs at x y a i l f = moved (x.each i l) (y.each i l) (a.each i l) (get_or-chunk at n bs i 0 l) f
 
--- lanes of a first load, with zeros before it
+-- the first bytes of a text
 module _ (n : ℕ) (bs : List ℕ) (long : n ≤ length bs) where
   -- bytes after zeros, in a prefix and in the whole
   prefix_one : (i : ℕ) → i < n → get_or (0 ∷ take n bs) i 0 ≡ get_or (0 ∷ bs) i 0
@@ -152,11 +144,6 @@ module _ (n : ℕ) (bs : List ℕ) (long : n ≤ length bs) where
   pub IsValidAt-take : (i : ℕ) → i < n → IsValidAt bs i → IsValidAt (take n bs) i
   IsValidAt-take i l f = moved (sym (prefix_three i l)) (sym (prefix_two i l)) (sym (prefix_one i l)) (sym (get_or-take n bs i 0 l)) f
 
-  pub IsValidAt-first : {three two one : List ℕ} → HasLanes n three (λ k. get_or (0 ∷ 0 ∷ 0 ∷ take n bs) k 0)
-      → HasLanes n two (λ k. get_or (0 ∷ 0 ∷ take n bs) k 0) → HasLanes n one (λ k. get_or (0 ∷ take n bs) k 0) → (i : ℕ) → i < n
-      → IsValidAfter (get_or three i 0) (get_or two i 0) (get_or one i 0) (get_or (take n bs) i 0) → IsValidAt bs i
-  IsValidAt-first x y a i l f = moved (x.each i l ∙ prefix_three i l) (y.each i l ∙ prefix_two i l) (a.each i l ∙ prefix_one i l) (get_or-take n bs i 0 l) f
-
 -- ---- more bytes
 pub ValidUpTo-more : (bs : List ℕ) (at n : ℕ) → ValidUpTo bs at → ((i : ℕ) → i < n → IsValidAt bs (at + i)) → ValidUpTo bs (at + n)
 ValidUpTo-more bs at n prefix more = record {
@@ -169,15 +156,11 @@ ValidUpTo-more bs at n prefix more = record {
 pub ValidUpTo_over : (bs : List ℕ) (at from n : ℕ) → from ≤ at → ValidUpTo bs at → ((i : ℕ) → i < n → IsValidAt bs (from + i)) → ValidUpTo bs (from + n)
 ValidUpTo_over bs at from n h prefix more = ValidUpTo-more bs from n (record { each = λ i l. prefix.each i (omega arith) }) more
 
--- two blocks
-pub follows_two : (bs : List ℕ) (at : ℕ) → ((i : ℕ) → i < 32 → IsValidAt bs (at + i)) → ((i : ℕ) → i < 32 → IsValidAt bs (at + 32 + i)) → ValidUpTo bs at
-    → ValidUpTo bs (at + 64)
-follows_two bs at a b prefix =
-    let e : at + 32 + 32 ≡ at + 64 = omega arith in
-    subst (ValidUpTo bs) e (ValidUpTo-more bs (at + 32) 32 (ValidUpTo-more bs at 32 prefix a) b)
-
 pub ValidUpTo-none : (bs : List ℕ) → ValidUpTo bs 0
 ValidUpTo-none bs = record { each = λ i l. absurd (omega arith) }
+
+pub ValidUpTo-first : (bs : List ℕ) (n : ℕ) → ((i : ℕ) → i < n → IsValidAt bs (0 + i)) → ValidUpTo bs n
+ValidUpTo-first bs n first = record { each = λ i l. (let e : 0 + i ≡ i = omega arith in subst (IsValidAt bs) e (first i l)) }
 
 pub ValidUpTo_less : (bs : List ℕ) (n m : ℕ) → m ≤ n → ValidUpTo bs n → ValidUpTo bs m
 ValidUpTo_less bs n m h f = record { each = λ i l. f.each i (omega arith) }

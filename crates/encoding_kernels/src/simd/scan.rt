@@ -158,7 +158,7 @@ impl<'a> AllPass<HALF_BLOCK, BLOCK> for BytesBelow<'a> {
     fn pass(&self, at: usize) -> bool {
         let bytes = self.bytes;
         let others = others_of_32(bytes, at, self.bound) | others_of_32(bytes, at + 32, self.bound);
-        is_zero_by_words(others)
+        is_zero(others)
     }
 }
 
@@ -170,7 +170,7 @@ impl<'a> AllPass<HALF_BLOCK, TWO_BLOCKS> for BytesBelow<'a> {
             | others_of_32(bytes, at + 32, self.bound)
             | others_of_32(bytes, at + 64, self.bound)
             | others_of_32(bytes, at + 96, self.bound);
-        is_zero_by_words(others)
+        is_zero(others)
     }
 }
 
@@ -187,7 +187,7 @@ impl<'a> AllPass<HALF_BLOCK, FOUR_BLOCKS> for BytesBelow<'a> {
             | others_of_32(bytes, at + 160, self.bound)
             | others_of_32(bytes, at + 192, self.bound)
             | others_of_32(bytes, at + 224, self.bound);
-        is_zero_by_words(others)
+        is_zero(others)
     }
 }
 
@@ -236,14 +236,18 @@ pub fn prefix_len_below(bytes: &[u8], bound: u8) -> usize
     ensures below { BelowUpTo bound bytes.now result }
     ensures stops { result < length bytes.now → bound ≤ slice_index bytes.now result }
 {
-    if bytes.len() < STRIDE {
-        return short_prefix_len_below(bytes, bound);
+    if bytes.len() >= STRIDE {
+        let run = run_len_below::<STRIDE>(bytes, 0, bound);
+        if run < STRIDE {
+            return run;
+        }
+        return prefix_after_stride(bytes, bound);
     }
-    let run = run_len_below::<STRIDE>(bytes, 0, bound);
-    if run < STRIDE {
-        return run;
+    let test = BytesBelow { bytes, bound };
+    if bytes.len() >= HALF_STRIDE {
+        return find::<HALF_STRIDE, _>(&test, 0, bytes.len());
     }
-    prefix_after_stride(bytes, bound)
+    skip::<1, 1, _>(&test, 0, bytes.len())
 }
 
 /// Returns the length of the longest prefix of bytes below the bound, given that those of the first stride are.
@@ -262,35 +266,9 @@ pub fn prefix_after_stride(bytes: &[u8], bound: u8) -> usize
     find::<BLOCK, _>(&test, by_blocks, bytes.len())
 }
 
-/// Returns the length of the longest prefix of bytes below the bound, in a text shorter than a stride.
-#[inline(always)]
-fn short_prefix_len_below(bytes: &[u8], bound: u8) -> usize
-    ensures within { result ≤ length bytes.now }
-    ensures below { BelowUpTo bound bytes.now result }
-    ensures stops { result < length bytes.now → bound ≤ slice_index bytes.now result }
-{
-    if bytes.len() >= HALF_STRIDE {
-        return find::<HALF_STRIDE, _>(&BytesBelow { bytes, bound }, 0, bytes.len());
-    }
-    let mut at = 0;
-    while at < bytes.len() && bytes[at] < bound {
-        at += 1;
-    }
-    at
-}
-
-/// Returns whether each lane is zero.
-#[tactic(auto, using(std::proofs::lemmas::Grind::common_steps, crate::proofs::MaskLemmas::zeros_from_mask))]
-#[inline(always)]
-pub(crate) fn is_zero(lanes: u8x32) -> bool
-    ensures { IsTrue result → IsZeroTo lanes 32 }
-{
-    lanes.simd_ne(u8x32::splat(0)).to_bitmask() == 0
-}
-
 /// Returns whether each lane is zero, by words of 64 bits: ARM has no instruction for the mask of a vector.
 #[inline(always)]
-pub(crate) fn is_zero_by_words(lanes: u8x32) -> bool
+pub(crate) fn is_zero(lanes: u8x32) -> bool
     ensures { IsTrue result ↔ IsZeroTo lanes 32 }
 {
     u64x4::from_le_bytes(lanes).reduce_or() == 0

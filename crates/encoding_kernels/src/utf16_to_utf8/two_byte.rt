@@ -6,7 +6,7 @@ ghost use Rattle.encoding_kernels.specs.KeptBytes.{EncodesTo};
 ghost use Rattle.encoding_kernels.specs.Utf8Output.{Spills};
 
 use crate::simd::compress::{places_by, select_in_halves, store_two};
-use crate::simd::scan::is_zero_by_words;
+use crate::simd::scan::is_zero;
 use std::simd::prelude::*;
 
 /// Returns whether each of the sixteen code units is ASCII.
@@ -15,7 +15,7 @@ use std::simd::prelude::*;
 pub(crate) fn are_ascii(units: u16x16) -> bool
     ensures { IsTrue result → (k : ℕ) → k < 16 → slice_index units k < 0x80 }
 {
-    is_zero_by_words((units & u16x16::splat(0xFF80)).to_le_bytes())
+    is_zero((units & u16x16::splat(0xFF80)).to_le_bytes())
 }
 
 /// Returns whether each of the sixteen code units is below U+0800.
@@ -24,7 +24,7 @@ pub(crate) fn are_ascii(units: u16x16) -> bool
 pub(super) fn are_two_byte(units: u16x16) -> bool
     ensures { IsTrue result → (k : ℕ) → k < 16 → slice_index units k < 0x800 }
 {
-    is_zero_by_words((units & u16x16::splat(0xF800)).to_le_bytes())
+    is_zero((units & u16x16::splat(0xF800)).to_le_bytes())
 }
 
 /// Returns two bytes for each of sixteen code units: its UTF-8. A unit of one byte has an arbitrary second one.

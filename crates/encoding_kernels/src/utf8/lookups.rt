@@ -5,7 +5,7 @@
 
 ghost use Rattle.std.specs.Prelude.{◌≡◌, ℕ, ◌+◌, ◌<◌, ◌≤◌, ◌∷◌, length, slice_index};
 ghost use Rattle.encoding_kernels.specs.Scans.{HasLanes};
-ghost use Rattle.encoding_kernels.specs.Following.{IsValidAfter, IsValidAt};
+ghost use Rattle.encoding_kernels.specs.Following.{IsValidAt};
 
 use crate::simd::lookup::twice;
 use std::simd::prelude::*;
@@ -100,70 +100,6 @@ const BYTE_2_HIGH: [u8; 32] = twice![
     TOO_SHORT,
 ];
 
-/// Returns zero in each lane whose byte may follow the three before it.
-#[inline(always)]
-fn faults_of(fourth: u8x16, third: u8x16, second: u8x16, block: u8x16) -> u8x16
-    ensures length { length result ≡ 16 }
-    ensures lanes { (i : ℕ) → i < 16 → slice_index result i ≡ 0
-        → IsValidAfter (slice_index fourth i) (slice_index third i) (slice_index second i)
-        (slice_index block i) }
-{
-    let four = u8x16::splat(4);
-    let pairs = u8x16::from_slice(&BYTE_1_HIGH).swizzle_dyn(second >> four)
-        & u8x16::from_slice(&BYTE_1_LOW).swizzle_dyn(second & u8x16::splat(15))
-        & u8x16::from_slice(&BYTE_2_HIGH).swizzle_dyn(block >> four);
-    let goes_on = third.saturating_sub(u8x16::splat(0x60))
-        | fourth.saturating_sub(u8x16::splat(0x70));
-    (goes_on & u8x16::splat(0x80)) ^ pairs
-}
-
-/// Returns zero in each of 32 lanes whose byte may follow the three before it.
-#[inline(always)]
-fn faults_of_32(fourth: u8x32, third: u8x32, second: u8x32, block: u8x32) -> u8x32
-    ensures length { length result ≡ 32 }
-    ensures lanes { (i : ℕ) → i < 32 → slice_index result i ≡ 0
-        → IsValidAfter (slice_index fourth i) (slice_index third i) (slice_index second i)
-        (slice_index block i) }
-{
-    let four = u8x32::splat(4);
-    let pairs = u8x32::from_slice(&BYTE_1_HIGH).swizzle_dyn_within::<16>(second >> four)
-        & u8x32::from_slice(&BYTE_1_LOW).swizzle_dyn_within::<16>(second & u8x32::splat(15))
-        & u8x32::from_slice(&BYTE_2_HIGH).swizzle_dyn_within::<16>(block >> four);
-    let goes_on = third.saturating_sub(u8x32::splat(0x60))
-        | fourth.saturating_sub(u8x32::splat(0x70));
-    (goes_on & u8x32::splat(0x80)) ^ pairs
-}
-
-/// Returns, for the sixteen bytes from `at` on, zero in each lane whose byte may follow the three before it.
-#[inline(always)]
-pub(super) fn faults(src: &[u8], at: usize) -> u8x16
-    requires { (3 ≤ at) × (at + 16 ≤ length src.now) }
-    ensures length { length result ≡ 16 }
-    ensures lanes { (i : ℕ) → i < 16 → slice_index result i ≡ 0 → IsValidAt src.now (at + i) }
-{
-    faults_of(
-        u8x16::from_slice(&src[at - 3..]),
-        u8x16::from_slice(&src[at - 2..]),
-        u8x16::from_slice(&src[at - 1..]),
-        u8x16::from_slice(&src[at..]),
-    )
-}
-
-/// Returns, for the 32 bytes from `at` on, zero in each lane whose byte may follow the three before it.
-#[inline(always)]
-pub(super) fn faults_32(src: &[u8], at: usize) -> u8x32
-    requires { (3 ≤ at) × (at + 32 ≤ length src.now) }
-    ensures length { length result ≡ 32 }
-    ensures lanes { (i : ℕ) → i < 32 → slice_index result i ≡ 0 → IsValidAt src.now (at + i) }
-{
-    faults_of_32(
-        u8x32::from_slice(&src[at - 3..]),
-        u8x32::from_slice(&src[at - 2..]),
-        u8x32::from_slice(&src[at - 1..]),
-        u8x32::from_slice(&src[at..]),
-    )
-}
-
 /// Returns for each lane the bytes three, two and one lanes before it, and zeros before the first.
 #[inline(always)]
 pub(crate) fn lanes_before(block: u8x16) -> (u8x16, u8x16, u8x16)
@@ -194,49 +130,98 @@ pub(crate) fn lanes_before(block: u8x16) -> (u8x16, u8x16, u8x16)
     )
 }
 
-/// Returns, for the first sixteen bytes, zero in each lane whose byte may follow those before it.
+/// Returns the bytes three, two and one before each of the sixteen from `at` on. If BEFORE is 0, these are the first of the text,
+/// and zeros precede it.
 #[inline(always)]
-pub(super) fn first_faults(src: &[u8]) -> u8x16
-    requires { 16 ≤ length src.now }
-    ensures length { length result ≡ 16 }
-    ensures lanes { (i : ℕ) → i < 16 → slice_index result i ≡ 0 → IsValidAt src.now i }
+pub(crate) fn bytes_before<const BEFORE: usize>(src: &[u8], at: usize) -> (u8x16, u8x16, u8x16)
+    requires { (BEFORE ≤ at) × (BEFORE < 3 → at ≡ 0) × (at + 16 ≤ length src.now) }
+    ensures three { HasLanes 16 result.0 (λ k. slice_index (0 ∷ 0 ∷ 0 ∷ src.now) (at + k)) }
+    ensures two { HasLanes 16 result.1 (λ k. slice_index (0 ∷ 0 ∷ src.now) (at + k)) }
+    ensures one { HasLanes 16 result.2 (λ k. slice_index (0 ∷ src.now) (at + k)) }
 {
-    let block = u8x16::from_slice(src);
-    let (fourth, third, second) = lanes_before(block);
-    faults_of(fourth, third, second, block)
+    if BEFORE < 3 {
+        return lanes_before(u8x16::from_slice(src));
+    }
+    let three = u8x16::from_slice(&src[at - 3..]);
+    let two = u8x16::from_slice(&src[at - 2..]);
+    let one = u8x16::from_slice(&src[at - 1..]);
+    (three, two, one)
 }
 
-/// Returns, for the first 32 bytes, zero in each lane whose byte may follow those before it.
+/// Returns the bytes three, two and one before each of the 32 from `at` on. If BEFORE is 0, these are the first of the text, and
+/// zeros precede it.
 #[inline(always)]
-pub(super) fn first_faults_32(src: &[u8]) -> u8x32
-    requires { 32 ≤ length src.now }
-    ensures length { length result ≡ 32 }
-    ensures lanes { (i : ℕ) → i < 32 → slice_index result i ≡ 0 → IsValidAt src.now i }
+fn bytes_before_32<const BEFORE: usize>(src: &[u8], at: usize) -> (u8x32, u8x32, u8x32)
+    requires { (BEFORE ≤ at) × (BEFORE < 3 → at ≡ 0) × (at + 32 ≤ length src.now) }
+    ensures three { HasLanes 32 result.0 (λ k. slice_index (0 ∷ 0 ∷ 0 ∷ src.now) (at + k)) }
+    ensures two { HasLanes 32 result.1 (λ k. slice_index (0 ∷ 0 ∷ src.now) (at + k)) }
+    ensures one { HasLanes 32 result.2 (λ k. slice_index (0 ∷ src.now) (at + k)) }
 {
-    let block = u8x32::from_slice(src);
-    let zero = u8x32::splat(0);
-    faults_of_32(
-        zero.shuffle(
+    if BEFORE < 3 {
+        let (zero, block) = (u8x32::splat(0), u8x32::from_slice(src));
+        let three = zero.shuffle(
             block,
             [
                 29, 30, 31, 32, 33, 34, 35, 36, 37, 38, 39, 40, 41, 42, 43, 44, 45, 46, 47, 48, 49,
                 50, 51, 52, 53, 54, 55, 56, 57, 58, 59, 60,
             ],
-        ),
-        zero.shuffle(
+        );
+        let two = zero.shuffle(
             block,
             [
                 30, 31, 32, 33, 34, 35, 36, 37, 38, 39, 40, 41, 42, 43, 44, 45, 46, 47, 48, 49, 50,
                 51, 52, 53, 54, 55, 56, 57, 58, 59, 60, 61,
             ],
-        ),
-        zero.shuffle(
+        );
+        let one = zero.shuffle(
             block,
             [
                 31, 32, 33, 34, 35, 36, 37, 38, 39, 40, 41, 42, 43, 44, 45, 46, 47, 48, 49, 50, 51,
                 52, 53, 54, 55, 56, 57, 58, 59, 60, 61, 62,
             ],
-        ),
-        block,
-    )
+        );
+        return (three, two, one);
+    }
+    let three = u8x32::from_slice(&src[at - 3..]);
+    let two = u8x32::from_slice(&src[at - 2..]);
+    let one = u8x32::from_slice(&src[at - 1..]);
+    (three, two, one)
+}
+
+/// Returns, for the sixteen bytes from `at` on, zero in each lane whose byte may follow the three before it. If BEFORE is 0, they are
+/// the first of the text.
+#[inline(always)]
+pub(super) fn faults<const BEFORE: usize>(src: &[u8], at: usize) -> u8x16
+    requires { (BEFORE ≤ at) × (BEFORE < 3 → at ≡ 0) × (at + 16 ≤ length src.now) }
+    ensures length { length result ≡ 16 }
+    ensures lanes { (i : ℕ) → i < 16 → slice_index result i ≡ 0 → IsValidAt src.now (at + i) }
+{
+    let (fourth, third, second) = bytes_before::<BEFORE>(src, at);
+    let block = u8x16::from_slice(&src[at..]);
+    let four = u8x16::splat(4);
+    let pairs = u8x16::from_slice(&BYTE_1_HIGH).swizzle_dyn(second >> four)
+        & u8x16::from_slice(&BYTE_1_LOW).swizzle_dyn(second & u8x16::splat(15))
+        & u8x16::from_slice(&BYTE_2_HIGH).swizzle_dyn(block >> four);
+    let goes_on = third.saturating_sub(u8x16::splat(0x60))
+        | fourth.saturating_sub(u8x16::splat(0x70));
+    (goes_on & u8x16::splat(0x80)) ^ pairs
+}
+
+/// Returns, for the 32 bytes from `at` on, zero in each lane whose byte may follow the three before it. If BEFORE is 0, they are the
+/// first of the text.
+#[inline(always)]
+pub(super) fn faults_32<const BEFORE: usize>(src: &[u8], at: usize) -> u8x32
+    requires { (BEFORE ≤ at) × (BEFORE < 3 → at ≡ 0) × (at + 32 ≤ length src.now) }
+    ensures length { length result ≡ 32 }
+    ensures lanes { (i : ℕ) → i < 32 → slice_index result i ≡ 0 → IsValidAt src.now (at + i) }
+{
+    let (fourth, third, second) = bytes_before_32::<BEFORE>(src, at);
+    let block = u8x32::from_slice(&src[at..]);
+    let four = u8x32::splat(4);
+    let pairs = u8x32::from_slice(&BYTE_1_HIGH).swizzle_dyn_within::<16>(second >> four)
+        & u8x32::from_slice(&BYTE_1_LOW).swizzle_dyn_within::<16>(second & u8x32::splat(15))
+        & u8x32::from_slice(&BYTE_2_HIGH).swizzle_dyn_within::<16>(block >> four);
+    let goes_on = third.saturating_sub(u8x32::splat(0x60))
+        | fourth.saturating_sub(u8x32::splat(0x70));
+    (goes_on & u8x32::splat(0x80)) ^ pairs
 }

@@ -1,7 +1,7 @@
 //! Validates UTF-8 by blocks of 64 bytes, and 8 to 64 bytes by one vector or two that may overlap. ASCII before the blocks, and
 //! long runs of it between them, are the caller's.
 
-ghost use Rattle.std.specs.Prelude.{◌+◌, ◌*◌, ◌<◌, ◌≤◌, length, take};
+ghost use Rattle.std.specs.Prelude.{◌≡◌, ◌+◌, ◌*◌, ◌<◌, ◌≤◌, length, take};
 ghost use Rattle.encoding_kernels.specs.Scans.{BelowBetween, BelowUpTo};
 ghost use Rattle.encoding_kernels.specs.Following.{ValidUpTo};
 ghost use Rattle.std.specs.Str.{IsUtf8};
@@ -10,25 +10,33 @@ use crate::simd::scan::{AllPass, BytesBelow, is_zero, skip, zeros};
 use crate::simd::short::with_zeros;
 use crate::simd::width::{ASCII_END, BLOCK, FOUR_BLOCKS, HALF_BLOCK, STRIDE, TWO_BLOCKS};
 use crate::tuning::{FIRST_PAIRS, MOST_PAIRS, MOST_SKIPPED};
-use crate::utf8::lookups::{faults, faults_32, first_faults, first_faults_32};
+use crate::utf8::lookups::{faults, faults_32};
 
-/// Returns how many of the 64 bytes from `at` on precede the first that may not follow the three before it.
+/// Returns how many of the 64 bytes from `at` on, or of all the bytes if they are fewer, precede the first that may not follow
+/// the three before it. If BEFORE is 0, they are the first of the text, and zeros precede it.
+#[tactic(auto, using(crate::proofs::Utf8ValidationLemmas::ValidUpTo_over))]
 #[inline(always)]
-fn clean_of_64(src: &[u8], at: usize) -> usize
-    requires { (3 ≤ at) × (at + 64 ≤ length src.now) }
-    ensures within { result ≤ 64 }
+fn clean_of_64<const BEFORE: usize>(src: &[u8], at: usize) -> usize
+    requires before { (BEFORE ≤ at) × (BEFORE < 3 → at ≡ 0) }
+    requires within { (at + 35 ≤ length src.now) × (3 ≤ BEFORE → at + 64 ≤ length src.now) }
+    ensures within { (at + result ≤ length src.now) × (result ≤ 64) }
     ensures follow { ValidUpTo src.now at → ValidUpTo src.now (at + result) }
 {
-    let first = faults_32(src, at);
-    let second = faults_32(src, at + 32);
+    let last = if BEFORE < 3 {
+        (src.len() - 32).min(32)
+    } else {
+        at + 32
+    };
+    let first = faults_32::<BEFORE>(src, at);
+    let second = faults_32::<3>(src, last);
     if is_zero(first | second) {
-        return 64;
+        return last + 32 - at;
     }
     let clean = zeros(first);
     if clean < 32 {
         return clean;
     }
-    32 + zeros(second)
+    last - at + zeros(second)
 }
 
 /// Extends a prefix of `from` bytes that may each follow those before it. Adds at most `pairs` times 128 bytes, and returns
@@ -43,11 +51,11 @@ fn extend_by_pairs(src: &[u8], from: usize, pairs: usize) -> usize
     let mut at = from;
     let mut left = pairs;
     while left > 0 {
-        let clean = clean_of_64(src, at);
+        let clean = clean_of_64::<3>(src, at);
         if clean < BLOCK {
             return at + clean;
         }
-        let clean = clean_of_64(src, at + BLOCK);
+        let clean = clean_of_64::<3>(src, at + BLOCK);
         at += TWO_BLOCKS;
         if clean < BLOCK {
             return at - BLOCK + clean;
@@ -57,51 +65,19 @@ fn extend_by_pairs(src: &[u8], from: usize, pairs: usize) -> usize
     at
 }
 
-/// Returns the length, at most 64, of a prefix whose bytes may each follow those before it.
-#[inline(always)]
-fn clean_of_first_64(src: &[u8]) -> usize
-    requires { 35 ≤ length src.now }
-    ensures within { result ≤ length src.now }
-    ensures follow { ValidUpTo src.now result }
-{
-    let last = (src.len() - 32).min(32);
-    let first = first_faults_32(src);
-    let second = faults_32(src, last);
-    if is_zero(first | second) {
-        return last + 32;
-    }
-    let clean = zeros(first);
-    if clean < 32 {
-        return clean;
-    }
-    last + zeros(second)
-}
-
 /// Returns the length, at most 32, of a prefix whose bytes may each follow those before it.
-#[tactic(auto, using(std::proofs::lemmas::Grind::common_steps, crate::proofs::Utf8ValidationLemmas::ValidUpTo_over))]
 #[inline(always)]
 fn clean_of_first_32(src: &[u8]) -> usize
     requires { 16 ≤ length src.now }
     ensures within { result ≤ length src.now }
     ensures follow { ValidUpTo src.now result }
 {
-    let clean = zeros(first_faults(src));
+    let clean = zeros(faults::<0>(src, 0));
     if clean < 16 || src.len() < 19 {
         return clean;
     }
     let last = (src.len() - 16).min(16);
-    last + zeros(faults(src, last))
-}
-
-/// Returns the length of a prefix of eight to fifteen bytes that may each follow those before it, by one vector that zeros fill.
-#[inline(always)]
-fn clean_of_few(src: &[u8]) -> usize
-    requires { (8 ≤ length src.now) × (length src.now < 16) }
-    ensures within { result ≤ length src.now }
-    ensures follow { ValidUpTo src.now result }
-{
-    let block = with_zeros(src).to_array();
-    zeros(first_faults(&block)).min(src.len())
+    last + zeros(faults::<3>(src, last))
 }
 
 /// Returns `at`, or the start of the character that is cut there.
@@ -157,7 +133,7 @@ fn finish(src: &[u8], from: usize) -> usize
 {
     let mut at = from;
     while src.len() - at >= BLOCK {
-        let clean = clean_of_64(src, at);
+        let clean = clean_of_64::<3>(src, at);
         if clean < BLOCK {
             return at + clean;
         }
@@ -167,7 +143,7 @@ fn finish(src: &[u8], from: usize) -> usize
         return at;
     }
     let last = src.len() - BLOCK;
-    last + clean_of_64(src, last)
+    last + clean_of_64::<3>(src, last)
 }
 
 /// Extends a prefix of `from` bytes that may each follow those before it, and returns its length. Stops in a long run of
@@ -186,12 +162,12 @@ fn following(src: &[u8], from: usize) -> usize
     // from a multiple of 64 on: until ASCII is skipped, only the length decides how often the loops iterate
     let mut at = from / BLOCK * BLOCK;
     if at < BLOCK {
-        at = clean_of_first_64(src);
+        at = clean_of_64::<0>(src, 0);
         if at < BLOCK {
             return at;
         }
     } else if src.len() - at >= BLOCK {
-        let clean = clean_of_64(src, at);
+        let clean = clean_of_64::<3>(src, at);
         at += clean;
         if clean < BLOCK {
             return at;
@@ -226,11 +202,13 @@ pub fn well_formed_short(src: &[u8]) -> usize
     ensures { (result ≤ length src.now) × IsUtf8 (take result src.now) }
 {
     let clean = if src.len() >= 35 {
-        clean_of_first_64(src)
+        clean_of_64::<0>(src, 0)
     } else if src.len() >= STRIDE {
         clean_of_first_32(src)
     } else {
-        clean_of_few(src)
+        // one vector, which zeros fill
+        let block = with_zeros(src).to_array();
+        zeros(faults::<0>(&block, 0)).min(src.len())
     };
     back(src, clean)
 }

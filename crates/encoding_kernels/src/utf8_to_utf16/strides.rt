@@ -16,7 +16,7 @@ ghost use Rattle.encoding_kernels.specs.EndingUnits.{NoUnitEnds, WritesCompresse
 use crate::scalar::{decode_utf8_scalar, sequence_length, write_utf16};
 use crate::simd::short::with_zeros;
 use crate::simd::width::{HALF_STRIDE, STRIDE};
-use crate::utf8::lookups::lanes_before;
+use crate::utf8::lookups::bytes_before;
 use crate::utf8_to_utf16::code_units::{compress, ends_of_stride, is_below, units_of_stride};
 use std::simd::prelude::*;
 
@@ -28,24 +28,6 @@ pub(super) const STRIDE_AND_BEFORE: usize = STRIDE + 3;
 
 /// The indices of the lanes of a vector.
 const LANES: [u16; 8] = [0, 1, 2, 3, 4, 5, 6, 7];
-
-/// Returns the bytes three, two and one before each of the sixteen from `at` on. If BEFORE is 0, these are the first of the text,
-/// and zeros precede it.
-#[inline(always)]
-fn bytes_before<const BEFORE: usize>(src: &[u8], at: usize) -> (u8x16, u8x16, u8x16)
-    requires { (BEFORE ≤ at) × (BEFORE < 3 → at ≡ 0) × (at + 16 ≤ length src.now) }
-    ensures three { HasLanes 16 result.0 (λ k. slice_index (0 ∷ 0 ∷ 0 ∷ src.now) (at + k)) }
-    ensures two { HasLanes 16 result.1 (λ k. slice_index (0 ∷ 0 ∷ src.now) (at + k)) }
-    ensures one { HasLanes 16 result.2 (λ k. slice_index (0 ∷ src.now) (at + k)) }
-{
-    if BEFORE < 3 {
-        return lanes_before(u8x16::from_slice(src));
-    }
-    let three = u8x16::from_slice(&src[at - 3..]);
-    let two = u8x16::from_slice(&src[at - 2..]);
-    let one = u8x16::from_slice(&src[at - 1..]);
-    (three, two, one)
-}
 
 /// Writes the code units that end with the bytes from `from` up to `to` of the sixteen from `at` on, if no character has more
 /// than N bytes, and returns their number. BEFORE is 0 for the first sixteen bytes of the text, and 3 for others. `dst` has at

@@ -5,9 +5,9 @@ use Rattle.encoding_kernels.proofs.bidi.units.are_32_clear.Goals as goal
 pub returns-then-is_zero : goal.returns-then-is_zero
 returns-then-is_zero c t =
     none_in_32 c.args.units.now c.args.at _ _ _ c.bytes_of_32.ensures.upper c.bytes_of_32.ensures.lower c.groups_of_32-groups.ensures.lanes
-    (c.if-is_zero.ensures refl)
+    (c.if-is_zero.ensures.0 refl)
 
 pub returns-then-is_zero-2 : goal.returns-then-is_zero-2
 returns-then-is_zero-2 c t =
     none_but_forms c.args.units.now c.args.at _ _ _ c.bytes_of_32.ensures.upper c.bytes_of_32.ensures.lower (λ k. (c.type_inv.units k).fits)
-    c.groups_of_32-groups.ensures.length c.groups_of_32-groups.ensures.others (c.if-is_zero-2.ensures refl) (c.pass.ensures.0 t)
+    c.groups_of_32-groups.ensures.length c.groups_of_32-groups.ensures.others (c.if-is_zero-2.ensures.0 refl) (c.pass.ensures.0 t)

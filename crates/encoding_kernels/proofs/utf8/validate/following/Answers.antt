@@ -1,7 +1,7 @@
 use Rattle.std.proofs.Common.{ℕ, ◌≡◌, ◌+◌, ◌-◌, ◌<◌, ◌≤◌, List, arith, subst}
 use Rattle.encoding_kernels.specs.Following.{ValidUpTo}
 use Rattle.encoding_kernels.specs.Scans.{BelowBetween}
-use Rattle.encoding_kernels.proofs.Utf8ValidationLemmas.{ValidUpTo_less, ValidUpTo_through_ascii}
+use Rattle.encoding_kernels.proofs.Utf8ValidationLemmas.{ValidUpTo-none, ValidUpTo_less, ValidUpTo_through_ascii}
 use Rattle.encoding_kernels.proofs.utf8.validate.following.Goals as goal
 use Rattle.encoding_kernels.proofs.utf8.validate.following.Goals.{then-at-lt-BLOCK+else-at-lt-BLOCK-2, else-at-lt-BLOCK+then-src-at-ge-BLOCK+else-clean-lt-BLOCK, else-at-lt-BLOCK+else-src-at-ge-BLOCK}
 
@@ -10,10 +10,11 @@ loop-at-init c =
     let whole = ValidUpTo_less c.args.src.now c.args.from in
     elim c.if-at-lt-BLOCK.branch [
       | then-at-lt-BLOCK+else-at-lt-BLOCK-2 w ↦
+          let e : 0 + w.clean_of_64-at.result ≡ w.clean_of_64-at.result = omega arith in
           rw w.at-is (record {
             started = omega arith;
-            within = w.clean_of_first_64-at.ensures.within;
-            prefix = w.clean_of_first_64-at.ensures.follow;
+            within = omega (arith, w.clean_of_64-at.ensures.within);
+            prefix = subst (ValidUpTo c.args.src.now) e (w.clean_of_64-at.ensures.follow (ValidUpTo-none _));
             some = omega arith;
             few = omega arith;
           })

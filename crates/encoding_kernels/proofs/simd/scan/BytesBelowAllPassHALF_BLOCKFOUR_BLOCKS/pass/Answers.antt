@@ -10,4 +10,4 @@ returns c =
     let six = others_join five c.others_of_32-6.ensures in
     let seven = others_join six c.others_of_32-7.ensures in
     let eight = others_join seven c.others_of_32-8.ensures in
-    (λ t. eight.zero.0 (c.is_zero_by_words.ensures.0 t), λ h. c.is_zero_by_words.ensures.1 (eight.zero.1 h))
+    (λ t. eight.zero.0 (c.is_zero.ensures.0 t), λ h. c.is_zero.ensures.1 (eight.zero.1 h))

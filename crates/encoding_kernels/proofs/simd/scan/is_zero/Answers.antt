@@ -1,6 +1,6 @@
 use Rattle.std.proofs.lemmas.Bool.{eqb-true, eq-eqb}
 use Rattle.encoding_kernels.proofs.MaskLemmas.{zero_words, words_zero}
-use Rattle.encoding_kernels.proofs.simd.scan.is_zero_by_words.Goals as goal
+use Rattle.encoding_kernels.proofs.simd.scan.is_zero.Goals as goal
 
 pub returns : goal.returns
 returns c =
