@@ -214,16 +214,9 @@ below_next bound xs n below next k l = elim (cases_lt k n) [
   | inr p ↦ let e : n ≡ k = omega arith in subst (λ j. slice_index xs j < bound) e next
 ]
 
--- ---- what a stride writes
+-- ---- what the first `run` units of a stride write
 module _ {n at : ℕ} {xs part : List ℕ} (p : IsPart n at xs part) {old new after : List ℕ} (w : WritesPrefix old new at (take at xs))
     (room : length xs ≤ length old) where
-  -- all of its units
-  pub copied_part : after ≡ take at new ++ (part ++ drop (at + n) new) → WritesPrefix old after (at + n) (take (at + n) xs)
-  copied_part put =
-      WritesPrefix_block old new after xs at n w p.within (omega (arith, p.within, WritesPrefix-length _ _ _ _ w)) (put
-      ∙ ap (λ ys. take at new ++ (ys ++ drop (at + n) new)) p.is)
-
-  -- the first `run`
   pub copied_first : (run : ℕ) → run ≤ n → after ≡ take at new ++ (take run part ++ drop (at + run) new)
       → WritesPrefix old after (at + run) (take (at + run) xs)
   copied_first run few put =

@@ -26,10 +26,11 @@ pub ruleset stored = (put_is, length-chunk)
 pub whole_chunk : {X : Type 0} (n : ℕ) (stride : List X) → length stride ≡ n → chunk 0 n stride ≡ stride
 whole_chunk n stride long = take_all n stride (omega (arith, long))
 
--- a vector read from the same index of another list, each lane cast to what holds it
-pub put_same_place : {X : Type 0} (at n : ℕ) (xs ys : List X) → at + n ≤ length ys → at + n ≤ length xs
-    → put_chunk at xs (map (λ x. x) (chunk at n ys)) ≡ take at xs ++ (take n (drop at ys) ++ drop (at + n) xs)
-put_same_place at n xs ys within room = ap (put_chunk at xs) (map-id (chunk at n ys)) ∙ put_is at n xs (chunk at n ys) (length-chunk at n ys within) room
+-- a vector read from another list, each lane cast to what holds it
+pub put_copied : {X : Type 0} (from at n : ℕ) (xs ys : List X) → from + n ≤ length ys → at + n ≤ length xs
+    → put_chunk at xs (map (λ x. x) (chunk from n ys)) ≡ take at xs ++ (take n (drop from ys) ++ drop (at + n) xs)
+put_copied from at n xs ys within room =
+    ap (put_chunk at xs) (map-id (chunk from n ys)) ∙ put_is at n xs (chunk from n ys) (length-chunk from n ys within) room
 
 -- a stored vector whose first lanes count: the list before their end, and from a vector's width after it
 pub put_prefix : (w : ℕ) (xs ys : List ℕ) (at n : ℕ) → length ys ≡ w → n ≤ w → at + w ≤ length xs

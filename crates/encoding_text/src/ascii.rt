@@ -6,9 +6,7 @@ ghost use Rattle.std.specs.Str.{IsAscii};
 ghost use Rattle.encoding_definitions.specs.Ascii.{IsFirstOther, prefix_length_by, IsIso2022JpAscii};
 ghost use Rattle.encoding_definitions.specs.Prefixes.{IsLongestPrefix, WritesPrefix};
 
-use encoding_kernels::simd::copy::{
-    copy_first, copy_part, pack_first, pack_part, unpack_first, unpack_part,
-};
+use encoding_kernels::simd::copy::{copy, copy_first, pack, pack_first, unpack, unpack_first};
 use encoding_kernels::simd::scan::{are_256_below, are_bytes_below, run_len_below};
 use encoding_kernels::simd::units::{are_units_below, units_run_len_below};
 use encoding_kernels::simd::width::{
@@ -177,7 +175,7 @@ pub fn ascii_to_ascii(src: &[u8], dst: &mut [u8]) -> Option<(u8, usize)>
         if !are_bytes_below::<BLOCK>(block, 0, ASCII_END) {
             break;
         }
-        copy_part::<BLOCK>(block, dst, at);
+        copy::<BLOCK>(block, 0, dst, at);
         at += BLOCK;
     }
     for i in at / STRIDE..strides.len() {
@@ -186,7 +184,7 @@ pub fn ascii_to_ascii(src: &[u8], dst: &mut [u8]) -> Option<(u8, usize)>
             copy_first(&strides[i], dst, at, run);
             return Some((fitting[at + run], at + run));
         }
-        copy_part::<STRIDE>(&strides[i], dst, at);
+        copy::<STRIDE>(&strides[i], 0, dst, at);
         at += STRIDE;
     }
     for i in at..fitting.len() {
@@ -222,7 +220,7 @@ pub fn ascii_to_basic_latin(src: &[u8], dst: &mut [u16]) -> Option<(u8, usize)>
         if !are_bytes_below::<BLOCK>(block, 0, ASCII_END) {
             break;
         }
-        unpack_part::<BLOCK>(block, dst, at);
+        unpack::<BLOCK>(block, 0, dst, at);
         at += BLOCK;
     }
     for i in at / STRIDE..strides.len() {
@@ -231,7 +229,7 @@ pub fn ascii_to_basic_latin(src: &[u8], dst: &mut [u16]) -> Option<(u8, usize)>
             unpack_first(&strides[i], dst, at, run);
             return Some((fitting[at + run], at + run));
         }
-        unpack_part::<STRIDE>(&strides[i], dst, at);
+        unpack::<STRIDE>(&strides[i], 0, dst, at);
         at += STRIDE;
     }
     for i in at..fitting.len() {
@@ -267,7 +265,7 @@ pub fn basic_latin_to_ascii(src: &[u16], dst: &mut [u8]) -> Option<(u16, usize)>
         if !are_units_below::<UNIT_BLOCK>(block, 0, BASIC_LATIN_END) {
             break;
         }
-        pack_part::<UNIT_BLOCK>(block, dst, at);
+        pack::<UNIT_BLOCK>(block, 0, dst, at);
         at += UNIT_BLOCK;
     }
     for i in at / STRIDE..strides.len() {
@@ -276,7 +274,7 @@ pub fn basic_latin_to_ascii(src: &[u16], dst: &mut [u8]) -> Option<(u16, usize)>
             pack_first(&strides[i], dst, at, run);
             return Some((fitting[at + run], at + run));
         }
-        pack_part::<STRIDE>(&strides[i], dst, at);
+        pack::<STRIDE>(&strides[i], 0, dst, at);
         at += STRIDE;
     }
     for i in at..fitting.len() {

@@ -17,14 +17,14 @@ const LANES_OF_BLOCK: [u8; BLOCK] = [
     50, 51, 52, 53, 54, 55, 56, 57, 58, 59, 60, 61, 62, 63,
 ];
 
-/// Copies the N bytes from `at` on to the same index.
+/// Copies the N bytes from `from` on to index `at`.
 #[tactic(auto, using(std::proofs::lemmas::Grind::common_steps, crate::proofs::VectorLemmas::stored))]
 #[inline(always)]
-pub fn copy<const N: usize>(src: &[u8], dst: &mut [u8], at: usize)
-    requires { (at + N ≤ length src.now) × (at + N ≤ length dst.old) }
-    ensures { dst.new ≡ take at dst.old ++ (take N (drop at src.now) ++ drop (at + N) dst.old) }
+pub fn copy<const N: usize>(src: &[u8], from: usize, dst: &mut [u8], at: usize)
+    requires { (from + N ≤ length src.now) × (at + N ≤ length dst.old) }
+    ensures { dst.new ≡ take at dst.old ++ (take N (drop from src.now) ++ drop (at + N) dst.old) }
 {
-    Simd::<u8, N>::from_slice(&src[at..]).copy_to_slice(&mut dst[at..]);
+    Simd::<u8, N>::from_slice(&src[from..]).copy_to_slice(&mut dst[at..]);
 }
 
 /// Copies `src` to the start of `dst`, N bytes at a time. The last stride may overlap the one before it.
@@ -36,10 +36,10 @@ fn copy_by_strides<const N: usize>(src: &[u8], dst: &mut [u8])
     let last = src.len() - N;
     let mut at = 0;
     while at < last {
-        copy::<N>(src, dst, at);
+        copy::<N>(src, at, dst, at);
         at += N;
     }
-    copy::<N>(src, dst, last);
+    copy::<N>(src, last, dst, last);
 }
 
 /// Copies `src`, of at least four bytes, to the start of `dst`. Two vectors that may overlap are enough up to 64 bytes.
@@ -78,14 +78,25 @@ pub fn copy_prefix(src: &[u8], dst: &mut [u8])
     }
 }
 
-/// Copies the N bytes from `at` on to the same index, each as a UTF-16 code unit.
+/// Copies the N bytes from `from` on to index `at`, each as a UTF-16 code unit.
 #[inline(always)]
-pub fn unpack<const N: usize>(src: &[u8], dst: &mut [u16], at: usize)
-    requires { (at + N ≤ length src.now) × (at + N ≤ length dst.old) }
-    ensures { dst.new ≡ take at dst.old ++ (take N (drop at src.now) ++ drop (at + N) dst.old) }
+pub fn unpack<const N: usize>(src: &[u8], from: usize, dst: &mut [u16], at: usize)
+    requires { (from + N ≤ length src.now) × (at + N ≤ length dst.old) }
+    ensures { dst.new ≡ take at dst.old ++ (take N (drop from src.now) ++ drop (at + N) dst.old) }
 {
-    let units = Simd::<u8, N>::from_slice(&src[at..]).cast::<u16>();
+    let units = Simd::<u8, N>::from_slice(&src[from..]).cast::<u16>();
     units.copy_to_slice(&mut dst[at..]);
+}
+
+/// Copies the N ASCII code units from `from` on to index `at`, each as a byte.
+#[inline(always)]
+pub fn pack<const N: usize>(src: &[u16], from: usize, dst: &mut [u8], at: usize)
+    requires within { (from + N ≤ length src.now) × (at + N ≤ length dst.old) }
+    requires ascii { AllBelow 0x80 src.now from N }
+    ensures { dst.new ≡ take at dst.old ++ (take N (drop from src.now) ++ drop (at + N) dst.old) }
+{
+    let bytes = Simd::<u16, N>::from_slice(&src[from..]).cast::<u8>();
+    bytes.copy_to_slice(&mut dst[at..]);
 }
 
 /// Copies the 64 bytes from `at` on to the same index, each as a UTF-16 code unit. Strides are stored in order, as one
@@ -95,10 +106,10 @@ pub fn unpack_block(src: &[u8], dst: &mut [u16], at: usize)
     requires { (at + 64 ≤ length src.now) × (at + 64 ≤ length dst.old) }
     ensures { dst.new ≡ take at dst.old ++ (take 64 (drop at src.now) ++ drop (at + 64) dst.old) }
 {
-    unpack::<STRIDE>(src, dst, at);
-    unpack::<STRIDE>(src, dst, at + STRIDE);
-    unpack::<STRIDE>(src, dst, at + 2 * STRIDE);
-    unpack::<STRIDE>(src, dst, at + 3 * STRIDE);
+    unpack::<STRIDE>(src, at, dst, at);
+    unpack::<STRIDE>(src, at + STRIDE, dst, at + STRIDE);
+    unpack::<STRIDE>(src, at + 2 * STRIDE, dst, at + 2 * STRIDE);
+    unpack::<STRIDE>(src, at + 3 * STRIDE, dst, at + 3 * STRIDE);
 }
 
 /// Writes the lower byte of each of N UTF-16 code units from `at` on.
@@ -126,23 +137,6 @@ pub fn write_first(dst: &mut [u8], at: usize, bytes: u8x16, count: usize)
         .copy_to_slice(&mut dst[at..]);
 }
 
-/// Copies the first `count` of the sixteen bytes from `at` on to the same index. Stores sixteen, the others as `dst` has
-/// them.
-#[inline(always)]
-pub fn copy_run(src: &[u8], dst: &mut [u8], at: usize, count: usize)
-    requires within { (at + 16 ≤ length src.now) × (at + 16 ≤ length dst.old) }
-    requires count { count ≤ 16 }
-    ensures { dst.new ≡ take at dst.old
-        ++ (take count (drop at src.now) ++ drop (at + count) dst.old) }
-{
-    // a store of all sixteen needs no load of what an earlier store left there
-    if count == STRIDE {
-        copy::<STRIDE>(src, dst, at);
-    } else {
-        write_first(dst, at, u8x16::from_slice(&src[at..]), count);
-    }
-}
-
 /// Copies the first `count` of the 64 bytes from `at` on to the same index. Stores 64, the others as `dst` has them.
 #[inline(always)]
 pub fn copy_run_of_block(src: &[u8], dst: &mut [u8], at: usize, count: usize)
@@ -159,61 +153,19 @@ pub fn copy_run_of_block(src: &[u8], dst: &mut [u8], at: usize, count: usize)
         .copy_to_slice(&mut dst[at..]);
 }
 
-/// Copies the first `count` of the sixteen bytes from `at` on to the same index, each as a UTF-16 code unit. Stores sixteen,
-/// the others as `dst` has them.
+/// Writes the first `count` bytes from `at` on. Stores sixteen, the others as `dst` has them.
 #[inline(always)]
-pub fn unpack_run(src: &[u8], dst: &mut [u16], at: usize, count: usize)
-    requires within { (at + 16 ≤ length src.now) × (at + 16 ≤ length dst.old) }
+pub fn copy_first(src: &[u8], dst: &mut [u8], at: usize, count: usize)
+    requires within { (16 ≤ length src.now) × (at + 16 ≤ length dst.old) }
     requires count { count ≤ 16 }
-    ensures { dst.new ≡ take at dst.old
-        ++ (take count (drop at src.now) ++ drop (at + count) dst.old) }
+    ensures { dst.new ≡ take at dst.old ++ (take count src.now ++ drop (at + count) dst.old) }
 {
+    // a store of all sixteen needs no load of what an earlier store left there
     if count == STRIDE {
-        unpack::<STRIDE>(src, dst, at);
+        copy::<STRIDE>(src, 0, dst, at);
     } else {
-        unpack_first(&src[at..], dst, at, count);
+        write_first(dst, at, u8x16::from_slice(src), count);
     }
-}
-
-/// Writes N bytes from `at` on.
-#[tactic(auto, using(crate::proofs::VectorLemmas::put_is, crate::proofs::VectorLemmas::whole_chunk))]
-#[inline(always)]
-pub fn copy_part<const N: usize>(part: &[u8], dst: &mut [u8], at: usize)
-    requires { (length part.now ≡ N) × (at + N ≤ length dst.old) }
-    ensures { dst.new ≡ take at dst.old ++ (part.now ++ drop (at + N) dst.old) }
-{
-    Simd::<u8, N>::from_slice(part).copy_to_slice(&mut dst[at..]);
-}
-
-/// Writes N bytes from `at` on, each as a UTF-16 code unit.
-#[inline(always)]
-pub fn unpack_part<const N: usize>(part: &[u8], dst: &mut [u16], at: usize)
-    requires { (length part.now ≡ N) × (at + N ≤ length dst.old) }
-    ensures { dst.new ≡ take at dst.old ++ (part.now ++ drop (at + N) dst.old) }
-{
-    let units = Simd::<u8, N>::from_slice(part).cast::<u16>();
-    units.copy_to_slice(&mut dst[at..]);
-}
-
-/// Writes N ASCII code units from `at` on, each as a byte.
-#[inline(always)]
-pub fn pack_part<const N: usize>(part: &[u16], dst: &mut [u8], at: usize)
-    requires within { (length part.now ≡ N) × (at + N ≤ length dst.old) }
-    requires ascii { AllBelow 0x80 part.now 0 N }
-    ensures { dst.new ≡ take at dst.old ++ (part.now ++ drop (at + N) dst.old) }
-{
-    let bytes = Simd::<u16, N>::from_slice(part).cast::<u8>();
-    bytes.copy_to_slice(&mut dst[at..]);
-}
-
-/// Writes the first `count` bytes of a stride from `at` on. Stores sixteen, the others as `dst` has them.
-#[tactic(auto, using(crate::proofs::VectorLemmas::whole_chunk))]
-#[inline(always)]
-pub fn copy_first(stride: &[u8; STRIDE], dst: &mut [u8], at: usize, count: usize)
-    requires { (at + 16 ≤ length dst.old) × (count ≤ 16) }
-    ensures { dst.new ≡ take at dst.old ++ (take count stride.now ++ drop (at + count) dst.old) }
-{
-    write_first(dst, at, u8x16::from_slice(stride), count);
 }
 
 /// Writes the first `count` bytes from `at` on, each as a UTF-16 code unit. Stores sixteen, the others as `dst` has them.
@@ -223,6 +175,9 @@ pub fn unpack_first(src: &[u8], dst: &mut [u16], at: usize, count: usize)
     requires count { count ≤ 16 }
     ensures { dst.new ≡ take at dst.old ++ (take count src.now ++ drop (at + count) dst.old) }
 {
+    if count == STRIDE {
+        return unpack::<STRIDE>(src, 0, dst, at);
+    }
     let units = u8x16::from_slice(src).cast::<u16>();
     let following = u16x16::from_slice(&dst[at..]);
     let is_kept = u8x16::from_array(LANES)

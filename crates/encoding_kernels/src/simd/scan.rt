@@ -243,11 +243,14 @@ pub fn prefix_len_below(bytes: &[u8], bound: u8) -> usize
         }
         return prefix_after_stride(bytes, bound);
     }
-    let test = BytesBelow { bytes, bound };
     if bytes.len() >= HALF_STRIDE {
-        return find::<HALF_STRIDE, _>(&test, 0, bytes.len());
+        return find::<HALF_STRIDE, _>(&BytesBelow { bytes, bound }, 0, bytes.len());
     }
-    skip::<1, 1, _>(&test, 0, bytes.len())
+    let mut at = 0;
+    while at < bytes.len() && bytes[at] < bound {
+        at += 1;
+    }
+    at
 }
 
 /// Returns the length of the longest prefix of bytes below the bound, given that those of the first stride are.

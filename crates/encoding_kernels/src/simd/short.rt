@@ -6,7 +6,7 @@ ghost use Rattle.std.specs.Prelude.{◌≡◌, ℕ, List, ◌+◌, ◌-◌, ◌*
 ghost use Rattle.encoding_definitions.specs.Prefixes.{WritesPrefix};
 ghost use Rattle.encoding_kernels.specs.Scans.{PassBetween};
 
-use crate::simd::copy::{copy, pack_part, unpack};
+use crate::simd::copy::{copy, pack, unpack};
 use crate::simd::scan::{AllPass, BytesBelow, Test};
 use crate::simd::units::UnitsBelow;
 use crate::simd::width::{BLOCK, HALF_BLOCK, HALF_STRIDE, LANES, QUARTER_STRIDE, STRIDE};
@@ -191,7 +191,7 @@ impl<'a> ShortCopy<u8> for BytesBelow<'a> {
 impl<'a, const N: usize> CopyLanes<N, u8> for BytesBelow<'a> {
     #[inline(always)]
     fn write(&self, at: usize, dst: &mut [u8]) {
-        copy::<N>(self.bytes, dst, at);
+        copy::<N>(self.bytes, at, dst, at);
     }
 }
 
@@ -206,7 +206,7 @@ impl<'a> ShortCopy<u16> for BytesBelow<'a> {
 impl<'a, const N: usize> CopyLanes<N, u16> for BytesBelow<'a> {
     #[inline(always)]
     fn write(&self, at: usize, dst: &mut [u16]) {
-        unpack::<N>(self.bytes, dst, at);
+        unpack::<N>(self.bytes, at, dst, at);
     }
 }
 
@@ -221,7 +221,6 @@ impl<'a> ShortCopy<u8> for UnitsBelow<'a> {
 impl<'a, const N: usize> CopyLanes<N, u8> for UnitsBelow<'a> {
     #[inline(always)]
     fn write(&self, at: usize, dst: &mut [u8]) {
-        let units = self.units;
-        pack_part::<N>(&units[at..at + N], dst, at);
+        pack::<N>(self.units, at, dst, at);
     }
 }

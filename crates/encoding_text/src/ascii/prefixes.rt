@@ -10,7 +10,7 @@ ghost use Rattle.encoding_kernels.specs.Scans.{AllBelow, BelowUpTo, IsRunBelow};
 use super::{ascii_to_ascii, ascii_to_basic_latin};
 use encoding_kernels::lengths::{BLOCK_OF_TEXT, STRIDE_OF_TEXT};
 use encoding_kernels::simd::copy::{
-    copy, copy_run, copy_run_of_block, unpack, unpack_block, unpack_run,
+    copy, copy_first, copy_run_of_block, unpack, unpack_block, unpack_first,
 };
 use encoding_kernels::simd::scan::{
     BytesBelow, are_bytes_below, prefix_after_stride, prefix_len_below, run_len_below,
@@ -89,11 +89,11 @@ pub(crate) fn copy_blocks(src: &[u8], dst: &mut [u8]) -> usize
     let last = src.len() - BLOCK;
     let mut at = 0;
     while at < last && are_bytes_below::<BLOCK>(src, at, ASCII_END) {
-        copy::<BLOCK>(src, dst, at);
+        copy::<BLOCK>(src, at, dst, at);
         at += BLOCK;
     }
     if at >= last && are_bytes_below::<BLOCK>(src, last, ASCII_END) {
-        copy::<BLOCK>(src, dst, last);
+        copy::<BLOCK>(src, last, dst, last);
         return src.len();
     }
     let place = at.min(last);
@@ -140,7 +140,7 @@ pub(crate) fn copy_ascii_prefix(src: &[u8], dst: &mut [u8]) -> usize
     }
     let last = fitting.len() - STRIDE;
     let run = run_len_below::<STRIDE>(fitting, last, ASCII_END);
-    copy_run(fitting, dst, last, run);
+    copy_first(&fitting[last..], dst, last, run);
     last + run
 }
 
@@ -160,11 +160,11 @@ fn unpack_blocks(src: &[u8], dst: &mut [u16]) -> usize
     let last = src.len() - BLOCK;
     let mut at = 0;
     while at < last && are_bytes_below::<BLOCK>(src, at, ASCII_END) {
-        unpack::<BLOCK>(src, dst, at);
+        unpack::<BLOCK>(src, at, dst, at);
         at += BLOCK;
     }
     if at >= last && are_bytes_below::<BLOCK>(src, last, ASCII_END) {
-        unpack::<BLOCK>(src, dst, last);
+        unpack::<BLOCK>(src, last, dst, last);
         return src.len();
     }
     at
@@ -198,7 +198,7 @@ fn unpack_rest(src: &[u8], dst: &mut [u16]) -> usize
     }
     let last = src.len() - STRIDE;
     let run = run_len_below::<STRIDE>(src, last, ASCII_END);
-    unpack_run(src, dst, last, run);
+    unpack_first(&src[last..], dst, last, run);
     last + run
 }
 
@@ -272,10 +272,10 @@ pub(crate) fn copy_prefix_of_text(src: &[u8], dst: &mut [u16]) -> usize
             if src.len() - at < STRIDE_OF_TEXT {
                 break;
             }
-            unpack::<STRIDE>(src, dst, at);
+            unpack::<STRIDE>(src, at, dst, at);
             return at + run;
         }
-        unpack::<STRIDE>(src, dst, at);
+        unpack::<STRIDE>(src, at, dst, at);
         at += run;
     }
     if at == src.len() || src[at] >= ASCII_END {

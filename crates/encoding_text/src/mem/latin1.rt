@@ -10,7 +10,7 @@ use encoding_kernels::latin1::to_utf8::{
     utf8_length_of_first, write_few_latin1, write_latin1, write_latin1_block,
 };
 use encoding_kernels::scalar::write_scalar;
-use encoding_kernels::simd::copy::{copy_prefix, pack_lower, unpack_part};
+use encoding_kernels::simd::copy::{copy_prefix, pack_lower, unpack};
 use encoding_kernels::simd::scan::{AllPass, BytesBelow};
 use encoding_kernels::simd::short::write_short;
 use encoding_kernels::simd::width::{
@@ -29,7 +29,7 @@ pub fn convert_latin1_to_utf16(src: &[u8], dst: &mut [u16])
     let (strides, _) = src.as_chunks::<STRIDE>();
     let mut at = 0;
     for stride in strides {
-        unpack_part::<STRIDE>(stride, dst, at);
+        unpack::<STRIDE>(stride, 0, dst, at);
         at += STRIDE;
     }
     for i in at..src.len() {

@@ -1,5 +1,5 @@
 use Rattle.std.proofs.Common.{[], Some, take, slice_index, ◌+◌, refl, arith}
-use Rattle.encoding_kernels.proofs.ScanLemmas.{WritesPrefix_copy, first_part, stride_part, group_part, below_more, first_other_in, first_other_first, first_other_at, below_next, copied_part, copied_first, copied_start, fitting_room, found_fitting, found_none, copied_fitting, copied_all}
+use Rattle.encoding_kernels.proofs.ScanLemmas.{WritesPrefix_copy, first_part, stride_part, group_part, below_more, first_other_in, first_other_first, first_other_at, below_next, copied_first, copied_start, fitting_room, found_fitting, found_none, copied_fitting, copied_all}
 use Rattle.encoding_definitions.proofs.PrefixesLemmas.{WritesPrefix-length}
 use Rattle.encoding_text.proofs.ascii.ascii_to_basic_latin.Goals as goal
 
@@ -32,7 +32,7 @@ loop-four-preserved c =
     record {
       place = omega (arith, here.place);
       below = below_more part here.below 64 (omega arith) (c.if-not-are_bytes_below.ensures.0 refl);
-      copied = copied_part part here.copied room c.unpack_part.ensures;
+      copied = copied_first part here.copied room 64 (omega arith) c.unpack.ensures;
     }
 
 pub returns-then-run-lt-STRIDE-2-clause-found : goal.returns-then-run-lt-STRIDE-2-clause-found
@@ -67,7 +67,7 @@ loop-i-preserved c =
     record {
       place = omega (arith, here.place);
       below = below_more part here.below 16 (omega arith) (λ k from to. run.pass k from (omega (arith, to, c.if-run-lt-STRIDE-2.false)));
-      copied = copied_part part here.copied room c.unpack_part-in-loop-i.ensures;
+      copied = copied_first part here.copied room 16 (omega arith) c.unpack-in-loop-i.ensures;
     }
 
 pub returns-then-fitting-i-ge-ASCII_END-clause-found : goal.returns-then-fitting-i-ge-ASCII_END-clause-found

@@ -1,5 +1,5 @@
-use Rattle.encoding_kernels.proofs.VectorLemmas.{put_same_place}
+use Rattle.encoding_kernels.proofs.VectorLemmas.{put_copied}
 use Rattle.encoding_kernels.proofs.simd.copy.unpack.Goals as goal
 
 pub returns : goal.returns
-returns g c = put_same_place c.args.at g.row.N c.args.dst.now c.args.src.now c.requires.0 c.requires.1
+returns g c = put_copied c.args.from c.args.at g.row.N c.args.dst.now c.args.src.now c.requires.0 c.requires.1

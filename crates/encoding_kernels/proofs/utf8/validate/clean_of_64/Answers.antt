@@ -19,7 +19,8 @@ returns-then-is_zero-clause-follow g c prefix =
     ] in
     let e : last + 32 ≡ at + (last + 32 - at) = omega (arith, place) in
     subst (ValidUpTo src) e
-    (ValidUpTo_over src (at + 32) last 32 place.1 (ValidUpTo-more src at 32 prefix (λ i l. a.lanes i l (zeros.0.each i l))) (λ i l. b.lanes i l (zeros.1.each i l)))
+    (ValidUpTo_over src (at + 32) last 32 place.1 (ValidUpTo-more src at 32 prefix (λ i l. a.lanes i l (zeros.0.each i l)))
+    (λ i l. b.lanes i l (zeros.1.each i l)))
 
 pub returns-clause-follow : goal.returns-clause-follow
 returns-clause-follow g c prefix =

@@ -11,7 +11,8 @@ returns-then-this-lt4 g c x y a three two one short =
     let small = short (omega arith) in
     let bytes = HasLanes-itself 16 v c.fits-block.0 in
     HasLanes_same
-    (chosen_by (tests_of w8 ltb bytes (HasLanes-splat 16 0x80)) (HasLanes-splat 16 0) (upper_bits_lanes one y (HasLanes_same (difference 16 c.args.two 0xE0 c.fits-two (omega arith)) (λ k l. ap (λ b. b - 0xE0) (two.each k l)))))
+    (chosen_by (tests_of w8 ltb bytes (HasLanes-splat 16 0x80)) (HasLanes-splat 16 0)
+    (upper_bits_lanes one y (HasLanes_same (difference 16 c.args.two 0xE0 c.fits-two (omega arith)) (λ k l. ap (λ b. b - 0xE0) (two.each k l)))))
     (λ k l. short_upper_lane (x k) (y k) (a k) (get_or v k 0) (small k l).0 (small k l).1 (bytes_below v c.fits-block.0 c.fits-block.1 k l))
 
 pub returns : goal.returns

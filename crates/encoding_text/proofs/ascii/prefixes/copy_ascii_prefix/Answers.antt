@@ -1,7 +1,7 @@
-use Rattle.std.proofs.Common.{ℕ, ◌≡◌, ◌≤◌, ◌<◌, List, inl, inr, length, take, ap, sym, subst, ◌∙◌, arith}
+use Rattle.std.proofs.Common.{ℕ, ◌≡◌, ◌-◌, ◌≤◌, ◌<◌, List, inl, inr, length, take, ap, sym, subst, ◌∙◌, arith}
 use Rattle.std.specs.Str.{IsAscii}
 use Rattle.std.proofs.lemmas.Bool.{cases_lt}
-use Rattle.std.proofs.lemmas.List.{length-take, take_all, take-take}
+use Rattle.std.proofs.lemmas.List.{length-take, take_all, take_rest, take-take}
 use Rattle.encoding_definitions.specs.Prefixes.{IsLongestPrefix, WritesPrefix}
 use Rattle.encoding_text.proofs.WholePrefixesLemmas.{fitting_ascii, fitting_prefix, fitting_copied, prefix_on, copied_on}
 use Rattle.encoding_text.proofs.ascii.prefixes.copy_ascii_prefix.Goals as goal
@@ -83,4 +83,4 @@ returns-clause-copied c =
     let start = fitting_copied (take m src) mid whole call.within.0 room c.ascii_to_ascii.new.dst c.in_default.ensures.copied in
     copy_fits src old mid m least same _ _ (omega (arith, run.within, some))
     (copied_on (take m src) whole 16 c.run_len_below-run.result call.within.0 (omega (arith, call.within.1)) some ascii run
-    mid c.ascii_to_ascii.new.dst _ room start c.copy_run.ensures)
+    mid c.ascii_to_ascii.new.dst _ room start (rw (take_rest (take m src) (length (take m src) - 16)) at c.copy_first.ensures))

@@ -1,4 +1,5 @@
-use Rattle.std.proofs.Common.{arith, length-take-le, refl}
+use Rattle.std.proofs.Common.{◌-◌, arith, length, length-take-le, refl}
+use Rattle.std.proofs.lemmas.List.{take_rest}
 use Rattle.encoding_definitions.proofs.PrefixesLemmas.{WritesPrefix-same}
 use Rattle.encoding_text.proofs.WholePrefixesLemmas.{first_run, fitting_ascii, fitting_prefix, fitting_copied, prefix_on, copied_on}
 use Rattle.encoding_text.proofs.ascii.prefixes.unpack_rest.Goals as goal
@@ -39,4 +40,4 @@ returns-clause-copied c =
     let start = fitting_copied src old whole call.within.0 c.requires.dst_length c.ascii_to_basic_latin.new.dst c.in_default.ensures.copied in
     copied_on src whole 16 c.run_len_below-run-2.result call.within.0 (omega (arith, call.within.1)) (omega (arith, call.whole, c.if-whole-src.false)) ascii
     c.run_len_below-run-2.ensures
-    old c.ascii_to_basic_latin.new.dst _ c.requires.dst_length start c.unpack_run.ensures
+    old c.ascii_to_basic_latin.new.dst _ c.requires.dst_length start (rw (take_rest src (length src - 16)) at c.unpack_first.ensures)
