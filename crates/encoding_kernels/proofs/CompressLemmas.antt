@@ -10,7 +10,7 @@ use Rattle.std.proofs.lemmas.Grind.{same_number_lists}
 use Rattle.std.proofs.lemmas.Nat.{and_mask, ones_le_self}
 use Rattle.std.proofs.lemmas.List.{length-map, length-append, length-take-le, length-drop, get_or-map, take-map, map-append, take-append-drop, take_at, drop_at, drop-drop, drop-append-le}
 use Rattle.std.proofs.lemmas.Simd.{SwzOk, SwzOk-from_below, swz_l, length-swz_l, get_or-swz_l_below, Each1-from_get_or, Each1-get_or, mask_l-lt, ones-mask_l_cons, length-put_chunk}
-use Rattle.encoding_kernels.specs.declared.utf8_to_utf16.code_units.TheConstants.{COMPRESSED}
+use Rattle.encoding_kernels.specs.declared.utf8_to_utf16.strides.TheConstants.{COMPRESSED}
 use Rattle.encoding_kernels.proofs.VectorLemmas.{put_prefix, put_is, HasLanes-itself, HasLanes-numbers, HasLanes-splat, compared, firsts_are, same_below, bytes_lanes, wide, wide_l}
 use Rattle.encoding_kernels.proofs.MaskLemmas.{chosen_by, tests_of}
 use Rattle.encoding_kernels.proofs.MaskPartLemmas.{mask_split, low_half, high_half}

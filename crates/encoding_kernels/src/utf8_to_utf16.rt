@@ -1,6 +1,4 @@
-//! The UTF-16 of well-formed UTF-8: `text` converts by `groups`, these by `strides`, and these by `code_units`.
+//! The UTF-16 of well-formed UTF-8: `text` converts by groups of 64 bytes, and these by `strides`.
 
-mod code_units;
-mod groups;
 mod strides;
 pub mod text;
