@@ -1,11 +1,14 @@
 //! Copies by vectors: bytes as bytes or as UTF-16 code units, and ASCII code units as bytes. The rest of `dst` is
-//! unchanged.
+//! unchanged. A text of at most 128 bytes, or 64 UTF-16 code units, is tested as a whole and then copied, some units twice to the
+//! same index.
 
-ghost use Rattle.std.specs.Prelude.{◌≡◌, ◌+◌, ◌*◌, ◌%◌, ◌<◌, ◌≤◌, ◌++◌, length, map, take, drop, slice_index};
+ghost use Rattle.std.specs.Prelude.{◌≡◌, ◌+◌, ◌*◌, ◌%◌, ◌<◌, ◌≤◌, ◌++◌, length, map, take, drop, slice_index, ℕ, List, ◌-◌, ◌↔◌, IsTrue, IsFalse, replicate, refl};
 ghost use Rattle.encoding_definitions.specs.Prefixes.{WritesPrefix};
-ghost use Rattle.encoding_kernels.specs.Scans.{AllBelow, HasLanes};
+ghost use Rattle.encoding_kernels.specs.Scans.{AllBelow, HasLanes, PassBetween};
 
-use crate::simd::width::{BLOCK, HALF_BLOCK, HALF_STRIDE, LANES, STRIDE};
+use crate::simd::scan::{AllPass, BytesBelow, Test, pass_by_two, pass_few};
+use crate::simd::units::UnitsBelow;
+use crate::simd::width::{BLOCK, HALF_BLOCK, HALF_STRIDE, LANES, QUARTER_STRIDE, STRIDE};
 use crate::tuning::LONGEST_VECTOR_COPY;
 use std::simd::Simd;
 use std::simd::prelude::*;
@@ -216,4 +219,144 @@ pub(crate) fn join_bytes(lower: u8x16, upper: u8x16) -> (u16x8, u16x8)
         [8, 24, 9, 25, 10, 26, 11, 27, 12, 28, 13, 29, 14, 30, 15, 31],
     );
     (u16x8::from_le_bytes(first), u16x8::from_le_bytes(last))
+}
+
+/// Units that are copied if they pass a test.
+pub trait ShortCopy<D>: Test {
+    ghost units: { Self → List D };
+
+    ghost long: { (test : Self) → length (units test) ≡ Self.count test };
+
+    /// Whether a unit that passes can be copied.
+    ghost is_narrow: { Self → Type 0 };
+}
+
+/// N units that are copied at a time.
+pub trait CopyLanes<const N: usize, D>: ShortCopy<D> {
+    /// Copies the N units from `at` on, which pass, to the same index.
+    fn write(&self, at: usize, dst: &mut [D])
+        requires within { (at + N ≤ Self.count self.now) × (at + N ≤ length dst.old) }
+        requires pass { PassBetween (Self.passes self.now) at (at + N) }
+        requires narrow { Self.is_narrow self.now }
+        ensures { dst.new ≡ take at dst.old
+            ++ (take N (drop at (Self.units self.now)) ++ drop (at + N) dst.old) };
+}
+
+/// Copies N to 2 * N units if they pass. Returns whether they do.
+#[inline(always)]
+fn write_by_two<const N: usize, D, T: AllPass<N, N> + CopyLanes<N, D>>(
+    test: &T,
+    count: usize,
+    dst: &mut [D],
+) -> bool
+    requires count { (count ≡ T.count test.now) × (N ≤ count) × (count ≤ 2 * N) }
+    requires width { (0 < N) × (N ≤ 64) }
+    requires narrow { T.is_narrow test.now }
+    requires dst_length { count ≤ length dst.old }
+    ensures pass { IsTrue result ↔ PassBetween (T.passes test.now) 0 count }
+    ensures written { IsTrue result → WritesPrefix dst.old dst.new count (T.units test.now) }
+    ensures unchanged { IsFalse result → dst.new ≡ dst.old }
+{
+    if !pass_by_two::<N, T>(test, count) {
+        return false;
+    }
+    test.write(0, dst);
+    test.write(count - N, dst);
+    true
+}
+
+/// Copies one, two or three units if they pass. Returns whether they do. May copy a unit twice.
+#[inline(always)]
+fn write_few<D, T: AllPass<1, 1> + CopyLanes<1, D>>(test: &T, count: usize, dst: &mut [D]) -> bool
+    requires few { (count ≡ T.count test.now) × (0 < count) × (count ≤ 3) }
+    requires narrow { T.is_narrow test.now }
+    requires dst_length { count ≤ length dst.old }
+    ensures pass { IsTrue result ↔ PassBetween (T.passes test.now) 0 count }
+    ensures written { IsTrue result → WritesPrefix dst.old dst.new count (T.units test.now) }
+    ensures unchanged { IsFalse result → dst.new ≡ dst.old }
+{
+    if !pass_few(test, count) {
+        return false;
+    }
+    test.write(0, dst);
+    test.write(count / 2, dst);
+    test.write(count - 1, dst);
+    true
+}
+
+/// Copies a short text, of `count` units, if all of them pass. Returns whether they do. The rest of `dst` is unchanged.
+#[inline(always)]
+pub fn write_short<const LONGEST: usize, D, T>(test: &T, count: usize, dst: &mut [D]) -> bool
+where
+    T: AllPass<1, 1> + AllPass<4, 4> + AllPass<8, 8>,
+    T: AllPass<16, 16> + AllPass<32, 32> + AllPass<64, 64>,
+    T: CopyLanes<1, D> + CopyLanes<4, D> + CopyLanes<8, D>,
+    T: CopyLanes<16, D> + CopyLanes<32, D> + CopyLanes<64, D>,
+    requires short { (count ≡ T.count test.now) × (count ≤ LONGEST) × (LONGEST ≤ 128) }
+    requires narrow { T.is_narrow test.now }
+    requires dst_length { count ≤ length dst.old }
+    ensures pass { IsTrue result ↔ PassBetween (T.passes test.now) 0 count }
+    ensures written { IsTrue result → WritesPrefix dst.old dst.new count (T.units test.now) }
+    ensures unchanged { IsFalse result → dst.new ≡ dst.old }
+{
+    if LONGEST > BLOCK && count > BLOCK {
+        return write_by_two::<BLOCK, D, T>(test, count, dst);
+    }
+    if count > HALF_BLOCK {
+        return write_by_two::<HALF_BLOCK, D, T>(test, count, dst);
+    }
+    if count >= STRIDE {
+        return write_by_two::<STRIDE, D, T>(test, count, dst);
+    }
+    match count {
+        HALF_STRIDE.. => write_by_two::<HALF_STRIDE, D, T>(test, count, dst),
+        QUARTER_STRIDE.. => write_by_two::<QUARTER_STRIDE, D, T>(test, count, dst),
+        1.. => write_few(test, count, dst),
+        0 => true,
+    }
+}
+
+impl<'a> ShortCopy<u8> for BytesBelow<'a> {
+    ghost units = { λ s. s.bytes.now };
+
+    ghost long = { λ _. refl };
+
+    ghost is_narrow = { λ s. s.bound ≤ 0x80 };
+}
+
+impl<'a, const N: usize> CopyLanes<N, u8> for BytesBelow<'a> {
+    #[inline(always)]
+    fn write(&self, at: usize, dst: &mut [u8]) {
+        copy::<N>(self.bytes, at, dst, at);
+    }
+}
+
+impl<'a> ShortCopy<u16> for BytesBelow<'a> {
+    ghost units = { λ s. s.bytes.now };
+
+    ghost long = { λ _. refl };
+
+    ghost is_narrow = { λ s. s.bound ≤ 0x80 };
+}
+
+impl<'a, const N: usize> CopyLanes<N, u16> for BytesBelow<'a> {
+    #[inline(always)]
+    fn write(&self, at: usize, dst: &mut [u16]) {
+        unpack::<N>(self.bytes, at, dst, at);
+    }
+}
+
+impl<'a> ShortCopy<u8> for UnitsBelow<'a> {
+    ghost units = { λ s. s.units.now };
+
+    ghost long = { λ _. refl };
+
+    ghost is_narrow = { λ s. s.bound ≤ 0x80 };
+}
+
+impl<'a, const N: usize> CopyLanes<N, u8> for UnitsBelow<'a> {
+    #[inline(always)]
+    fn write(&self, at: usize, dst: &mut [u8]) {
+        pack::<N>(self.units, at, dst, at);
+    }
 }

@@ -1,12 +1,14 @@
 //! Scans for indices that pass a test, many at a time by vectors, and the longest prefix of bytes below a bound, such as
-//! the ASCII prefix.
+//! the ASCII prefix. Two vectors that may overlap cover a text of 4 to 128 units, so none is left to a loop.
 
-ghost use Rattle.std.specs.Prelude.{◌≡◌, ℕ, ◌+◌, ◌<◌, ◌≤◌, ◌↔◌, IsTrue, length, slice_index};
+ghost use Rattle.std.specs.Prelude.{◌≡◌, ℕ, ◌+◌, ◌*◌, ◌<◌, ◌≤◌, ◌↔◌, IsTrue, length, slice_index};
 ghost use lib.Count.{count_trailing_zeros};
 ghost use Rattle.encoding_kernels.specs.Following.{IsZeroTo};
 ghost use Rattle.encoding_kernels.specs.Scans.{PassBetween, IsPassRun, IsWidth, Marks, JoinsOthers, AllBelow, IsRunBelow, BelowUpTo};
 
-use crate::simd::width::{BLOCK, FOUR_BLOCKS, HALF_BLOCK, HALF_STRIDE, STRIDE, TWO_BLOCKS};
+use crate::simd::width::{
+    BLOCK, FOUR_BLOCKS, HALF_BLOCK, HALF_STRIDE, QUARTER_STRIDE, STRIDE, TWO_BLOCKS,
+};
 use std::simd::Simd;
 use std::simd::prelude::*;
 
@@ -122,6 +124,52 @@ pub(crate) fn find<const N: usize, T: LanePredicate<N> + AllPass<N, N>>(
     }
     let place = at.min(end - N);
     place + run::<N, T>(test, place)
+}
+
+/// Returns whether each of N to 2 * N indices passes.
+#[inline(always)]
+pub(super) fn pass_by_two<const N: usize, T: AllPass<N, N>>(test: &T, count: usize) -> bool
+    requires count { (count ≤ T.count test.now) × (N ≤ count) × (count ≤ 2 * N) }
+    requires width { (0 < N) × (N ≤ 64) }
+    ensures { IsTrue result ↔ PassBetween (T.passes test.now) 0 count }
+{
+    test.pass(0) & test.pass(count - N)
+}
+
+/// Returns whether each of one, two or three indices passes. May test one twice: a branch for each count costs more.
+#[inline(always)]
+pub(super) fn pass_few<T: AllPass<1, 1>>(test: &T, count: usize) -> bool
+    requires { (count ≤ T.count test.now) × (0 < count) × (count ≤ 3) }
+    ensures { IsTrue result ↔ PassBetween (T.passes test.now) 0 count }
+{
+    test.pass(0) & test.pass(count / 2) & test.pass(count - 1)
+}
+
+/// Returns whether each of the first `count` indices passes. Tests of the length begin with the longest texts, since a test that
+/// fails is a jump.
+#[inline(always)]
+pub fn pass_short<const LONGEST: usize, T>(test: &T, count: usize) -> bool
+where
+    T: AllPass<1, 1> + AllPass<4, 4> + AllPass<8, 8>,
+    T: AllPass<16, 16> + AllPass<32, 32> + AllPass<64, 64>,
+    requires { (count ≤ T.count test.now) × (count ≤ LONGEST) × (LONGEST ≤ 128) }
+    ensures { IsTrue result ↔ PassBetween (T.passes test.now) 0 count }
+{
+    if LONGEST > BLOCK && count > BLOCK {
+        return pass_by_two::<BLOCK, T>(test, count);
+    }
+    if count > HALF_BLOCK {
+        return pass_by_two::<HALF_BLOCK, T>(test, count);
+    }
+    if count >= STRIDE {
+        return pass_by_two::<STRIDE, T>(test, count);
+    }
+    match count {
+        HALF_STRIDE.. => pass_by_two::<HALF_STRIDE, T>(test, count),
+        QUARTER_STRIDE.. => pass_by_two::<QUARTER_STRIDE, T>(test, count),
+        1.. => pass_few(test, count),
+        0 => true,
+    }
 }
 
 /// Bytes that are below a bound.

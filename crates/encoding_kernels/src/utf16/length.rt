@@ -4,8 +4,7 @@ ghost use Rattle.encoding_definitions.specs.Utf16.{IsUtf8OfUnits};
 ghost use Rattle.encoding_kernels.specs.Scans.{BelowUpTo, HasLanes};
 ghost use Rattle.encoding_kernels.specs.Lengths.{extra_bytes, extra_bytes_by, extra_bytes_few, fewer};
 
-use crate::simd::scan::skip;
-use crate::simd::short::pass_short;
+use crate::simd::scan::{pass_short, skip};
 use crate::simd::sum::{Terms, sum_from};
 use crate::simd::units::UnitsBelow;
 use crate::simd::width::{BASIC_LATIN_END, HALF_UNIT_BLOCK, STRIDE, UNIT_BLOCK, UNIT_STRIDE};

@@ -4,8 +4,7 @@ ghost use Rattle.encoding_definitions.specs.Parts.{Part, ArePartsOf, lossy_utf16
 ghost use Rattle.encoding_kernels.specs.Scans.{BelowUpTo, HasLanes};
 ghost use Rattle.encoding_kernels.specs.Lengths.{sum_over_suffixes, goes_second, continuations, continuations_by, continuations_few, fewer};
 
-use crate::simd::scan::{BytesBelow, prefix_len_below, skip};
-use crate::simd::short::pass_short;
+use crate::simd::scan::{BytesBelow, pass_short, prefix_len_below, skip};
 use crate::simd::sum::{Terms, sum_from};
 use crate::simd::width::{ASCII_END, BLOCK, HALF_BLOCK, HALF_STRIDE};
 use crate::tuning::UTF8_LENGTH_SPAN;

@@ -3,11 +3,12 @@
 //! the nibbles of two adjacent bytes, each leave some errors possible. An error has a bit, and is there if all three
 //! leave it.
 
-ghost use Rattle.std.specs.Prelude.{◌≡◌, ℕ, ◌+◌, ◌<◌, ◌≤◌, ◌∷◌, length, slice_index};
+ghost use Rattle.std.specs.Prelude.{◌≡◌, ℕ, ◌+◌, ◌<◌, ◌≤◌, ◌∷◌, length, slice_index, ◌-◌, ◌++◌, take, drop, replicate};
 ghost use Rattle.encoding_kernels.specs.Scans.{HasLanes};
 ghost use Rattle.encoding_kernels.specs.Following.{IsValidAt};
 
 use crate::simd::lookup::twice;
+use crate::simd::width::LANES;
 use std::simd::prelude::*;
 
 /// A first byte of several is followed by a byte that isn't a continuation byte.
@@ -99,6 +100,34 @@ const BYTE_2_HIGH: [u8; 32] = twice![
     TOO_SHORT,
     TOO_SHORT,
 ];
+
+/// Returns the first eight of eight to sixteen bytes, followed by the last eight, which may overlap.
+#[inline(always)]
+pub(crate) fn first_and_last_eight(src: &[u8]) -> u8x16
+    requires { (8 ≤ length src.now) × (length src.now ≤ 16) }
+    ensures { result ≡ take 8 src.now ++ drop (length src.now - 8) src.now }
+{
+    u8x8::from_slice(src).shuffle(
+        u8x8::from_slice(&src[src.len() - 8..]),
+        [0, 1, 2, 3, 4, 5, 6, 7, 8, 9, 10, 11, 12, 13, 14, 15],
+    )
+}
+
+/// Returns eight to sixteen bytes, followed by zeros: the first eight, and those of the last eight after
+/// these. Uses only loads, since a load of what two stores wrote would stall on store forwarding.
+#[inline(always)]
+pub(crate) fn with_zeros(src: &[u8]) -> u8x16
+    requires { (8 ≤ length src.now) × (length src.now ≤ 16) }
+    ensures { result ≡ src.now ++ drop (length src.now) (replicate 16 0) }
+{
+    let lanes = u8x16::from_array(LANES);
+    let count = u8x16::splat(src.len() as u8);
+    let both = first_and_last_eight(src);
+    let following = (lanes + (u8x16::splat(16) - count)) & u8x16::splat(15);
+    let places = lanes.simd_lt(u8x16::splat(8)).select(lanes, following);
+    let bytes = both.swizzle_dyn(places);
+    lanes.simd_lt(count).select(bytes, u8x16::splat(0))
+}
 
 /// Returns for each lane the bytes three, two and one lanes before it, and zeros before the first.
 #[inline(always)]

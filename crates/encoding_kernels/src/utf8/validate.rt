@@ -7,10 +7,9 @@ ghost use Rattle.encoding_kernels.specs.Following.{ValidUpTo};
 ghost use Rattle.std.specs.Str.{IsUtf8};
 
 use crate::simd::scan::{AllPass, BytesBelow, is_zero, skip, zeros};
-use crate::simd::short::with_zeros;
 use crate::simd::width::{ASCII_END, BLOCK, FOUR_BLOCKS, HALF_BLOCK, STRIDE, TWO_BLOCKS};
 use crate::tuning::{FIRST_PAIRS, MOST_PAIRS, MOST_SKIPPED};
-use crate::utf8::lookups::{faults, faults_32};
+use crate::utf8::lookups::{faults, faults_32, with_zeros};
 
 /// Returns how many of the 64 bytes from `at` on, or of all the bytes if they are fewer, precede the first that may not follow
 /// the three before it. If BEFORE is 0, they are the first of the text, and zeros precede it.

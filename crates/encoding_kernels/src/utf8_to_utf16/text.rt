@@ -11,8 +11,7 @@ ghost use Rattle.encoding_kernels.specs.EndingUnits.{WritesUtf16, units_in, Begi
 ghost use Rattle.encoding_kernels.specs.Scans.{BelowBetween, BelowUpTo};
 
 use crate::scalar::sequence_length;
-use crate::simd::scan::{BytesBelow, are_bytes_below, run_before};
-use crate::simd::short::pass_short;
+use crate::simd::scan::{BytesBelow, are_bytes_below, pass_short, run_before};
 use crate::simd::width::{ASCII_END, BLOCK, FOUR, HALF_BLOCK, STRIDE, TWO_BLOCKS};
 use crate::utf8_to_utf16::strides::{
     FOUR_BYTES, STRIDE_AND_BEFORE, is_below, whole_end, write_block, write_character, write_stride,

@@ -10,12 +10,11 @@ ghost use Rattle.encoding_kernels.specs.Scans.{AllBelow, BelowUpTo, IsRunBelow};
 use super::{ascii_to_ascii, ascii_to_basic_latin};
 use encoding_kernels::lengths::{BLOCK_OF_TEXT, STRIDE_OF_TEXT};
 use encoding_kernels::simd::copy::{
-    copy, copy_first, copy_run_of_block, unpack, unpack_block, unpack_first,
+    copy, copy_first, copy_run_of_block, unpack, unpack_block, unpack_first, write_short,
 };
 use encoding_kernels::simd::scan::{
-    BytesBelow, are_bytes_below, prefix_after_stride, prefix_len_below, run_len_below,
+    BytesBelow, are_bytes_below, pass_short, prefix_after_stride, prefix_len_below, run_len_below,
 };
-use encoding_kernels::simd::short::{pass_short, write_short};
 use encoding_kernels::simd::width::{ASCII_END, BLOCK, FOUR_BLOCKS, STRIDE, TWO_BLOCKS};
 
 /// Returns whether at most 128 bytes are ASCII.

@@ -10,9 +10,8 @@ use encoding_kernels::latin1::to_utf8::{
     utf8_length_of_first, write_few_latin1, write_latin1, write_latin1_block,
 };
 use encoding_kernels::scalar::write_scalar;
-use encoding_kernels::simd::copy::{copy_prefix, pack_lower, unpack};
+use encoding_kernels::simd::copy::{copy_prefix, pack_lower, unpack, write_short};
 use encoding_kernels::simd::scan::{AllPass, BytesBelow};
-use encoding_kernels::simd::short::write_short;
 use encoding_kernels::simd::width::{
     ASCII_END, BLOCK, HALF_BLOCK, HALF_STRIDE, STRIDE, TWO_BLOCKS,
 };

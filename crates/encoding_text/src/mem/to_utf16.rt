@@ -12,8 +12,8 @@ use crate::ascii::prefixes::unpack_ascii_prefix;
 use crate::decoder::{DecoderResult, Utf8Decoder};
 use crate::utf_8::{convert_text, convert_utf8_to_utf16_up_to_invalid};
 use encoding_kernels::lengths::{BLOCK_OF_TEXT, SHORT};
+use encoding_kernels::simd::copy::write_short;
 use encoding_kernels::simd::scan::BytesBelow;
-use encoding_kernels::simd::short::write_short;
 use encoding_kernels::simd::width::ASCII_END;
 use encoding_kernels::utf8_to_utf16::text::convert_short;
 

@@ -11,9 +11,8 @@ use crate::ascii::prefixes::copy_blocks;
 use encoding_kernels::latin1::from_utf8::{
     latin1_length_of_first, latin1_of, latin1_of_after, write_latin1_of_two,
 };
-use encoding_kernels::simd::copy::write_first;
+use encoding_kernels::simd::copy::{write_first, write_short};
 use encoding_kernels::simd::scan::{BytesBelow, are_bytes_below};
-use encoding_kernels::simd::short::write_short;
 use encoding_kernels::simd::width::{ASCII_END, BLOCK, STRIDE, TWO_BLOCKS};
 use encoding_kernels::tuning::BLOCKS_BEFORE_RETEST;
 use std::simd::prelude::*;

@@ -9,7 +9,7 @@ use crate::ascii;
 use encoding_kernels::scalar::{
     is_high_surrogate, is_low_surrogate, utf8_length, utf16_length, write_scalar,
 };
-use encoding_kernels::simd::short::write_short;
+use encoding_kernels::simd::copy::write_short;
 use encoding_kernels::simd::units::UnitsBelow;
 use encoding_kernels::simd::width::{BASIC_LATIN_END, HALF_STRIDE, UNIT_BLOCK};
 use encoding_kernels::utf16::source::Units;

@@ -15,9 +15,8 @@ use crate::ascii::prefixes::{
 };
 use encoding_kernels::lengths::{LEAST_FOR_VECTORS, SHORT};
 use encoding_kernels::scalar::{decode_utf8_scalar, write_utf16};
-use encoding_kernels::simd::copy::copy_prefix;
+use encoding_kernels::simd::copy::{copy_prefix, write_short};
 use encoding_kernels::simd::scan::{AllPass, BytesBelow};
-use encoding_kernels::simd::short::write_short;
 use encoding_kernels::simd::width::{ASCII_END, FOUR_BLOCKS, HALF_BLOCK};
 use encoding_kernels::tuning::CONVERTED_PIECE;
 use encoding_kernels::utf8_to_utf16::text::{convert_short, convert_valid_utf8_to_utf16};

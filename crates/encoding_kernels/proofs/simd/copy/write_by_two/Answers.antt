@@ -1,7 +1,7 @@
 use Rattle.std.proofs.Common.{◌-◌, ◌+◌, arith}
 use Rattle.encoding_definitions.proofs.PrefixesLemmas.{WritesPrefix-nil, WritesPrefix_again}
 use Rattle.encoding_kernels.proofs.CopyLemmas.{WritesPrefix_whole}
-use Rattle.encoding_kernels.proofs.simd.short.write_by_two.Goals as goal
+use Rattle.encoding_kernels.proofs.simd.copy.write_by_two.Goals as goal
 
 pub returns-clause-written : goal.returns-clause-written
 returns-clause-written g c _ =

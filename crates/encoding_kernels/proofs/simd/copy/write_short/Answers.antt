@@ -1,7 +1,7 @@
 use Rattle.std.proofs.Common.{arith}
 use Rattle.encoding_definitions.proofs.PrefixesLemmas.{WritesPrefix-nil}
 use Rattle.encoding_kernels.proofs.CopyLemmas.{WritesPrefix_whole}
-use Rattle.encoding_kernels.proofs.simd.short.write_short.Goals as goal
+use Rattle.encoding_kernels.proofs.simd.copy.write_short.Goals as goal
 
 pub returns-in-0-clause-written : goal.returns-in-0-clause-written
 returns-in-0-clause-written g c _ =
