@@ -6,10 +6,11 @@ ghost use Rattle.encoding_kernels.specs.Scans.{BelowBetween, BelowUpTo};
 ghost use Rattle.encoding_kernels.specs.Following.{ValidUpTo};
 ghost use Rattle.std.specs.Str.{IsUtf8};
 
-use crate::simd::scan::{AllPass, BytesBelow, is_zero, skip, zeros};
+use crate::simd::scan::{AllPass, BytesBelow, skip, zeros};
 use crate::simd::width::{ASCII_END, BLOCK, FOUR_BLOCKS, HALF_BLOCK, STRIDE, TWO_BLOCKS};
 use crate::tuning::{FIRST_PAIRS, MOST_PAIRS, MOST_SKIPPED};
 use crate::utf8::lookups::{faults, faults_32, with_zeros};
+use std::simd::prelude::*;
 
 /// Returns how many of the 64 bytes from `at` on, or of all the bytes if they are fewer, precede the first that may not follow
 /// the three before it. If BEFORE is 0, they are the first of the text, and zeros precede it.
@@ -28,7 +29,8 @@ fn clean_of_64<const BEFORE: usize>(src: &[u8], at: usize) -> usize
     };
     let first = faults_32::<BEFORE>(src, at);
     let second = faults_32::<3>(src, last);
-    if is_zero(first | second) {
+    // a mask and not `is_zero`: without AVX2, comparisons then take the place of the exclusive ors in both
+    if (first | second).simd_ne(u8x32::splat(0)).to_bitmask() == 0 {
         return last + 32 - at;
     }
     let clean = zeros(first);

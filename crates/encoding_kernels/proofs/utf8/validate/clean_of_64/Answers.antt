@@ -1,18 +1,20 @@
-use Rattle.std.proofs.Common.{◌≡◌, ◌+◌, ◌-◌, ◌≤◌, arith, subst}
+use Rattle.std.proofs.Common.{◌≡◌, ◌+◌, ◌-◌, ◌≤◌, ◌∙◌, arith, bit_or, subst, sym}
+use Rattle.std.proofs.lemmas.Simd.{length-zip2}
 use Rattle.encoding_kernels.specs.Following.{ValidUpTo}
 use Rattle.encoding_kernels.proofs.Utf8ValidationLemmas.{ValidUpTo-more, ValidUpTo_over}
-use Rattle.encoding_kernels.proofs.MaskLemmas.{or_zeros}
+use Rattle.encoding_kernels.proofs.MaskLemmas.{or_zeros, zeros_from_mask}
 use Rattle.encoding_kernels.proofs.utf8.validate.clean_of_64.Goals as goal
 use Rattle.encoding_kernels.proofs.utf8.validate.clean_of_64.Goals.{then-this-lt3, else-this-lt3}
 
-pub returns-then-is_zero-clause-follow : goal.returns-then-is_zero-clause-follow
-returns-then-is_zero-clause-follow g c prefix =
+pub returns-then-first-second-eq0-clause-follow : goal.returns-then-first-second-eq0-clause-follow
+returns-then-first-second-eq0-clause-follow g c prefix =
     let src = c.args.src.now in
     let at = c.args.at in
     let last = c.if-this-lt3.last in
     let a = c.faults_32-first.ensures in
     let b = c.faults_32-second.ensures in
-    let zeros = or_zeros 32 _ _ a.length b.length (c.is_zero.ensures.0 c.if-is_zero.true) in
+    let long = length-zip2 bit_or _ _ (a.length ∙ sym b.length) ∙ a.length in
+    let zeros = or_zeros 32 _ _ a.length b.length (zeros_from_mask 32 (omega arith) _ long c.if-first-second-eq0.true) in
     let place : (at ≤ last) × (last ≤ at + 32) = elim c.if-this-lt3.branch [
       | then-this-lt3 w ↦ (omega (arith, c.requires.before, w.if-this-lt3, w.last-is), omega (arith, w.min-last.ensures, w.last-is))
       | else-this-lt3 w ↦ (omega (arith, w.last-is), omega (arith, w.last-is))
