@@ -45,25 +45,8 @@ fn copy_by_strides<const N: usize>(src: &[u8], dst: &mut [u8])
     copy::<N>(src, last, dst, last);
 }
 
-/// Copies `src`, of at least four bytes, to the start of `dst`. Two vectors that may overlap are enough up to 64 bytes.
-#[inline]
-fn copy_many(src: &[u8], dst: &mut [u8])
-    requires many { 4 ≤ length src.now }
-    requires dst_length { length src.now ≤ length dst.old }
-    ensures { WritesPrefix dst.old dst.new (length src.now) src.now }
-{
-    match src.len() {
-        ..HALF_STRIDE => copy_by_strides::<4>(src, dst),
-        ..STRIDE => copy_by_strides::<HALF_STRIDE>(src, dst),
-        ..HALF_BLOCK => copy_by_strides::<STRIDE>(src, dst),
-        ..=BLOCK => copy_by_strides::<HALF_BLOCK>(src, dst),
-        ..=LONGEST_VECTOR_COPY => copy_by_strides::<STRIDE>(src, dst),
-        _ => dst[..src.len()].copy_from_slice(src),
-    }
-}
-
 /// Copies `src` to the start of `dst`. A few bytes are not worth a PLT call of the C library. One, two or three may be copied
-/// twice: a branch for each length costs more.
+/// twice: a branch for each length costs more. Two vectors that may overlap are enough from four to 64 bytes.
 #[inline(always)]
 pub fn copy_prefix(src: &[u8], dst: &mut [u8])
     requires { length src.now ≤ length dst.old }
@@ -77,7 +60,12 @@ pub fn copy_prefix(src: &[u8], dst: &mut [u8])
             dst[middle] = src[middle];
             dst[last] = src[last];
         }
-        _ => copy_many(src, dst),
+        ..HALF_STRIDE => copy_by_strides::<4>(src, dst),
+        ..STRIDE => copy_by_strides::<HALF_STRIDE>(src, dst),
+        ..HALF_BLOCK => copy_by_strides::<STRIDE>(src, dst),
+        ..=BLOCK => copy_by_strides::<HALF_BLOCK>(src, dst),
+        ..=LONGEST_VECTOR_COPY => copy_by_strides::<STRIDE>(src, dst),
+        _ => dst[..src.len()].copy_from_slice(src),
     }
 }
 
