@@ -1,6 +1,6 @@
 //! The kinds of blocks of sixteen code units: each has its test and its conversion, and one loop converts a run of them.
 
-ghost use Rattle.std.specs.Prelude.{◌≡◌, Bool, true, IsTrue, ◌+◌, ◌*◌, ◌<◌, ◌≤◌, length};
+ghost use Rattle.std.specs.Prelude.{◌≡◌, ℕ, List, IsTrue, ◌+◌, ◌*◌, ◌<◌, ◌≤◌, length, slice_index};
 ghost use Rattle.encoding_kernels.specs.Utf8Output.{ConvertsDue, StoresBlock};
 
 use super::mixed::{SPILL, are_non_surrogate, store_mixed, write_sixteen};
@@ -15,15 +15,19 @@ pub(super) const MOST_BYTES: usize = 48;
 
 /// A kind of blocks.
 pub(super) trait Block {
-    // nothing after the bytes of a block changes
-    ghost restores: { Bool };
+    // what its test says of sixteen code units
+    ghost takes_all: { List ℕ → Type 0 };
 
-    /// Converts sixteen code units, if they are of this kind. Returns how many bytes it wrote, and how many after these
-    /// it may have changed.
-    fn convert(&self, units: u16x16, dst: &mut [u8], at: usize) -> (usize, usize)
+    /// Returns whether the sixteen code units are of this kind.
+    fn takes(&self, units: u16x16) -> bool
+        ensures { IsTrue result → takes_all units };
+
+    /// Converts sixteen code units of this kind. Returns how many bytes it wrote, and how many after these it may have
+    /// changed: none if it `restores` them.
+    fn convert(&self, units: u16x16, dst: &mut [u8], at: usize, restores: bool) -> (usize, usize)
         requires dst_length { (length units ≡ 16) × (at + 64 ≤ length dst.old) }
-        ensures none { result.0 ≡ 0 → dst.new ≡ dst.old }
-        ensures some { 0 < result.0 → StoresBlock units dst.old dst.new at result.0 result.1 }
+        requires kind { takes_all units }
+        ensures stored { StoresBlock units dst.old dst.new at result.0 result.1 }
         ensures restored { IsTrue restores → result.1 ≡ 0 };
 }
 
@@ -31,30 +35,34 @@ pub(super) trait Block {
 pub(super) struct Ascii;
 
 impl Block for Ascii {
-    ghost restores = { true };
+    ghost takes_all = { λ units. (k : ℕ) → k < 16 → slice_index units k < 0x80 };
 
     #[inline(always)]
-    fn convert(&self, units: u16x16, dst: &mut [u8], at: usize) -> (usize, usize) {
-        if !are_ascii(units) {
-            return (0, 0);
-        }
+    fn takes(&self, units: u16x16) -> bool {
+        are_ascii(units)
+    }
+
+    #[inline(always)]
+    fn convert(&self, units: u16x16, dst: &mut [u8], at: usize, restores: bool) -> (usize, usize) {
         units.cast::<u8>().copy_to_slice(&mut dst[at..]);
         (STRIDE, 0)
     }
 }
 
-/// Blocks of code units below U+0800. `RESTORES` says that nothing after the bytes of a block changes.
-pub(super) struct TwoByte<const RESTORES: bool>;
+/// Blocks of code units below U+0800.
+pub(super) struct TwoByte;
 
-impl<const RESTORES: bool> Block for TwoByte<RESTORES> {
-    ghost restores = { RESTORES };
+impl Block for TwoByte {
+    ghost takes_all = { λ units. (k : ℕ) → k < 16 → slice_index units k < 0x800 };
 
     #[inline(always)]
-    fn convert(&self, units: u16x16, dst: &mut [u8], at: usize) -> (usize, usize) {
-        if !are_two_byte(units) {
-            return (0, 0);
-        }
-        if RESTORES {
+    fn takes(&self, units: u16x16) -> bool {
+        are_two_byte(units)
+    }
+
+    #[inline(always)]
+    fn convert(&self, units: u16x16, dst: &mut [u8], at: usize, restores: bool) -> (usize, usize) {
+        if restores {
             return (write_two_byte(units, dst, at), 0);
         }
         (store_two_byte(units, dst, at), SPILL)
@@ -65,30 +73,36 @@ impl<const RESTORES: bool> Block for TwoByte<RESTORES> {
 pub(super) struct ThreeByte;
 
 impl Block for ThreeByte {
-    ghost restores = { true };
+    ghost takes_all = { λ units. (k : ℕ) → k < 16 → (0x800 ≤ slice_index units k)
+        × ((0xD800 ≤ slice_index units k) × (slice_index units k ≤ 0xDFFF) → ⊥) };
 
     #[inline(always)]
-    fn convert(&self, units: u16x16, dst: &mut [u8], at: usize) -> (usize, usize) {
-        if !are_three_byte(units) {
-            return (0, 0);
-        }
+    fn takes(&self, units: u16x16) -> bool {
+        are_three_byte(units)
+    }
+
+    #[inline(always)]
+    fn convert(&self, units: u16x16, dst: &mut [u8], at: usize, restores: bool) -> (usize, usize) {
         write_three_byte(units, dst, at);
         (MOST_BYTES, 0)
     }
 }
 
-/// Blocks of any code units but ASCII alone and surrogates. `RESTORES` says that nothing after the bytes of a block changes.
-pub(super) struct Mixed<const RESTORES: bool>;
+/// Blocks of any code units but ASCII alone and surrogates.
+pub(super) struct Mixed;
 
-impl<const RESTORES: bool> Block for Mixed<RESTORES> {
-    ghost restores = { RESTORES };
+impl Block for Mixed {
+    ghost takes_all = { λ units. (k : ℕ) → k < 16
+        → (0xD800 ≤ slice_index units k) × (slice_index units k ≤ 0xDFFF) → ⊥ };
 
     #[inline(always)]
-    fn convert(&self, units: u16x16, dst: &mut [u8], at: usize) -> (usize, usize) {
-        if are_ascii(units) || !are_non_surrogate(units) {
-            return (0, 0);
-        }
-        if RESTORES {
+    fn takes(&self, units: u16x16) -> bool {
+        !are_ascii(units) && are_non_surrogate(units)
+    }
+
+    #[inline(always)]
+    fn convert(&self, units: u16x16, dst: &mut [u8], at: usize, restores: bool) -> (usize, usize) {
+        if restores {
             return (write_sixteen(units, dst, at), 0);
         }
         (store_mixed(units, dst, at), SPILL)
@@ -97,9 +111,10 @@ impl<const RESTORES: bool> Block for Mixed<RESTORES> {
 
 /// Converts at most `most` code units from the start of `src`, while each sixteen are a block of the kind and sixteen
 /// more follow. At the start of `dst`, `due` bytes are still to be overwritten. Returns how many code units it read,
-/// how many bytes it wrote, and how many bytes after these are still to be overwritten, as sixteen code units do.
+/// how many bytes it wrote, and how many bytes after these are still to be overwritten, as sixteen code units do. `RESTORES`
+/// says that each block restores these.
 #[inline(always)]
-pub(super) fn convert_run<S: CodeUnits, T: Block>(
+pub(super) fn convert_run<S: CodeUnits, T: Block, const RESTORES: bool>(
     block: &T,
     src: S,
     dst: &mut [u8],
@@ -110,7 +125,7 @@ pub(super) fn convert_run<S: CodeUnits, T: Block>(
     requires due { (due ≤ 16) × (0 < due → 16 ≤ length (S.units src)) }
     ensures converted { ConvertsDue (S.units src) dst.old dst.new due
         result.0 result.1 result.2 }
-    ensures restored { IsTrue T.restores → due ≡ 0 → result.2 ≡ 0 }
+    ensures restored { IsTrue RESTORES → due ≡ 0 → result.2 ≡ 0 }
 {
     let mut read = 0;
     let mut written = 0;
@@ -118,13 +133,72 @@ pub(super) fn convert_run<S: CodeUnits, T: Block>(
     let end = most.min(src.count().saturating_sub(STRIDE + SPILL - 1));
     while read < end {
         let units = src.sixteen(read);
-        let (bytes, spill) = block.convert(units, dst, written);
-        if bytes == 0 {
+        if !block.takes(units) {
             break;
         }
+        let (bytes, spill) = block.convert(units, dst, written, RESTORES);
         read += STRIDE;
         written += bytes;
         spilled = spill;
     }
     (read, written, spilled)
+}
+
+/// Converts as `convert_run` does, but only the last block restores what follows: each other is followed by one that overwrites it.
+/// A load from `dst` for each block would take longer than its stores.
+#[inline(always)]
+fn convert_joined_run<S: CodeUnits, T: Block>(
+    block: &T,
+    src: S,
+    dst: &mut [u8],
+    due: usize,
+    most: usize,
+) -> (usize, usize, usize)
+    requires dst_length { 3 * length (S.units src) ≤ length dst.old }
+    requires due { (due ≤ 16) × (0 < due → 16 ≤ length (S.units src)) }
+    ensures converted { ConvertsDue (S.units src) dst.old dst.new due
+        result.0 result.1 result.2 }
+    ensures restored { due ≡ 0 → result.2 ≡ 0 }
+{
+    let mut read = 0;
+    let mut written = 0;
+    let mut spilled = due;
+    let blocks_end = src.count().saturating_sub(STRIDE + SPILL - 1);
+    let end = most.min(blocks_end);
+    if end == 0 {
+        return (0, 0, due);
+    }
+    let mut units = src.sixteen(0);
+    let mut fits = block.takes(units);
+    while fits {
+        let next = src.sixteen(read + STRIDE);
+        fits = read + STRIDE < end && block.takes(next);
+        let (bytes, spill) = block.convert(units, dst, written, !fits);
+        units = next;
+        read += STRIDE;
+        written += bytes;
+        spilled = spill;
+    }
+    (read, written, spilled)
+}
+
+/// Converts as `convert_run` does, by blocks that may change bytes after their own.
+#[inline(always)]
+pub(super) fn convert_spilling_run<S: CodeUnits, T: Block, const RESTORES: bool>(
+    block: &T,
+    src: S,
+    dst: &mut [u8],
+    due: usize,
+    most: usize,
+) -> (usize, usize, usize)
+    requires dst_length { 3 * length (S.units src) ≤ length dst.old }
+    requires due { (due ≤ 16) × (0 < due → 16 ≤ length (S.units src)) }
+    ensures converted { ConvertsDue (S.units src) dst.old dst.new due
+        result.0 result.1 result.2 }
+    ensures restored { IsTrue RESTORES → due ≡ 0 → result.2 ≡ 0 }
+{
+    if RESTORES {
+        return convert_joined_run(block, src, dst, due, most);
+    }
+    convert_run::<_, _, false>(block, src, dst, due, most)
 }

@@ -6,7 +6,7 @@ ghost use Rattle.encoding_definitions.specs.Prefixes.{WritesPrefix};
 ghost use Rattle.encoding_definitions.specs.Utf16.{IsUtf8OfPrefix};
 ghost use Rattle.encoding_kernels.specs.Utf8Output.{ConvertsDue, ConvertsPrefix, WritesBmp};
 
-use super::kinds::{Ascii, Mixed, ThreeByte, TwoByte, convert_run};
+use super::kinds::{Ascii, Mixed, ThreeByte, TwoByte, convert_run, convert_spilling_run};
 use super::mixed::SPILL;
 use super::pairs::{are_two_byte_or_paired, write_two_byte_or_paired};
 use super::tail::{convert_first_sixteen, convert_spilled};
@@ -34,7 +34,7 @@ fn convert_any_blocks<S: CodeUnits, const RESTORES: bool>(
     let mut written = 0;
     let mut spilled = due;
     while src.count() - read >= STRIDE + SPILL {
-        let (units, bytes, left) = convert_run(
+        let (units, bytes, left) = convert_run::<_, _, RESTORES>(
             &Ascii,
             src.skip(read),
             &mut dst[written..],
@@ -47,8 +47,8 @@ fn convert_any_blocks<S: CodeUnits, const RESTORES: bool>(
         if units == ASCII_RUN {
             break;
         }
-        let (units, bytes, left) = convert_run(
-            &TwoByte::<RESTORES>,
+        let (units, bytes, left) = convert_spilling_run::<_, _, RESTORES>(
+            &TwoByte,
             src.skip(read),
             &mut dst[written..],
             spilled,
@@ -58,8 +58,8 @@ fn convert_any_blocks<S: CodeUnits, const RESTORES: bool>(
         written += bytes;
         spilled = left;
         if units == 0 {
-            let (units, bytes, left) = convert_run(
-                &Mixed::<RESTORES>,
+            let (units, bytes, left) = convert_spilling_run::<_, _, RESTORES>(
+                &Mixed,
                 src.skip(read),
                 &mut dst[written..],
                 spilled,
@@ -89,7 +89,7 @@ fn convert_three_byte_blocks<S: CodeUnits>(
         result.0 result.1 result.2 }
     ensures restored { due ≡ 0 → result.2 ≡ 0 }
 {
-    convert_run(&ThreeByte, src, dst, due, src.count())
+    convert_run::<_, _, true>(&ThreeByte, src, dst, due, src.count())
 }
 
 /// Converts blocks from the start of `src`, until many in a row are ASCII, or one has a surrogate, or the end is near.

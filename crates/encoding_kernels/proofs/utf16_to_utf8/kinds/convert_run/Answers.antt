@@ -8,6 +8,6 @@ loop-read-preserved g c =
     record {
       converted = due_block_from (g.S.CodeUnits.units c.args.src) c.sixteen-units.result c.args.dst.now c.loop-read.dst _ c.args.due c.loop-read.read
           c.loop-read.written c.loop-read.spilled _ _ c.sixteen-units.ensures here.converted (omega (arith)) c.requires.dst_length
-          (c.convert-bytes.ensures.some (omega (arith)));
-      restored = λ t _. c.convert-bytes.ensures.restored t;
+          c.convert-bytes.ensures.stored;
+      restored = λ r _. c.convert-bytes.ensures.restored r;
     }
