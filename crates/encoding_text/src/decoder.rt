@@ -322,7 +322,7 @@ fn borrow_prefix<'a>(pending: &mut Pending, src: &'a [u8], last: bool) -> (Piece
         // a malformed sequence often comes next, and two bytes show most of them
         return (Piece::Malformed(length as u8), length);
     }
-    let length = valid_beyond_ascii::<true>(src);
+    let length = valid_beyond_ascii(src);
     if length > 0 {
         return (
             Piece::Text(unsafe { std::str::from_utf8_unchecked(&src[..length]) }),

@@ -223,7 +223,7 @@ fn copy_utf8_up_to_invalid(src: &[u8], dst: &mut [u8]) -> (usize, usize)
         copy_prefix(&src[..room], dst);
         return (room, room);
     }
-    let length = valid_beyond_ascii::<true>(&src[..room]);
+    let length = valid_beyond_ascii(&src[..room]);
     copy_prefix(&src[..length], dst);
     (length, length)
 }

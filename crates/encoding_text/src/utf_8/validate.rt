@@ -115,10 +115,10 @@ fn long_valid_up_to(src: &[u8]) -> usize
     valid_after(src, ascii)
 }
 
-/// Returns the length of the longest well-formed prefix of at most 64 bytes that aren't all ASCII. Out of line, so that only the
-/// test for ASCII is inline.
+/// Returns the length of the longest well-formed prefix of at most 64 bytes that aren't all ASCII. Expects malformed sequences.
+/// Out of line, so that only the test for ASCII is inline.
 #[inline(never)]
-fn short_valid_up_to<const DAMAGED: bool>(src: &[u8]) -> usize
+fn short_valid_up_to(src: &[u8]) -> usize
     requires length { length src.now ≤ 64 }
     requires other { IsAscii src.now → ⊥ }
     ensures { IsLongestPrefix IsUtf8 src.now result }
@@ -127,20 +127,20 @@ fn short_valid_up_to<const DAMAGED: bool>(src: &[u8]) -> usize
     if src.len() < STRIDE && src.len() < LEAST_FOR_VECTORS {
         return valid_after(src, 0);
     }
-    valid_up_to_by_vectors::<DAMAGED>(src)
+    valid_up_to_by_vectors::<true>(src)
 }
 
 /// Returns the length of the longest well-formed prefix, by the length of the bytes, which aren't all ASCII if they are at most
-/// 64. `DAMAGED` says that malformed sequences are expected.
+/// 64. Expects malformed sequences.
 #[inline(always)]
-pub(crate) fn valid_beyond_ascii<const DAMAGED: bool>(src: &[u8]) -> usize
+pub(crate) fn valid_beyond_ascii(src: &[u8]) -> usize
     requires other { (length src.now ≤ 64) × IsAscii src.now → ⊥ }
     ensures { IsLongestPrefix IsUtf8 src.now result }
 {
     if src.len() > SHORT {
         return long_valid_up_to(src);
     }
-    short_valid_up_to::<DAMAGED>(src)
+    short_valid_up_to(src)
 }
 
 /// Returns the length in bytes of the longest prefix of `src` that is well-formed UTF-8: the index of the first byte
@@ -158,5 +158,8 @@ pub fn utf8_valid_up_to(src: &[u8]) -> usize
     if is_short(src) {
         return src.len();
     }
-    short_valid_up_to::<false>(src)
+    if src.len() >= LEAST_FOR_VECTORS {
+        return valid_up_to_by_vectors::<false>(src);
+    }
+    valid_after(src, 0)
 }
