@@ -116,8 +116,8 @@ fn long_valid_up_to(src: &[u8]) -> usize
 }
 
 /// Returns the length of the longest well-formed prefix of at most 64 bytes that aren't all ASCII. Expects malformed sequences.
-/// Out of line, so that only the test for ASCII is inline.
-#[inline(never)]
+/// Inline, so that its speed doesn't depend on the addresses of two functions.
+#[inline(always)]
 fn short_valid_up_to(src: &[u8]) -> usize
     requires length { length src.now ≤ 64 }
     requires other { IsAscii src.now → ⊥ }
