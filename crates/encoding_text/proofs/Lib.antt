@@ -24,6 +24,7 @@ pub mod WholePrefixesLemmas
 pub mod Latin1ConversionLemmas
 pub mod PendingLemmas
 pub mod RepairingLemmas
+pub mod ResumeLemmas
 pub mod ReplacingLemmas
 pub mod RepairedLengthLemmas
 pub mod RoomLemmas

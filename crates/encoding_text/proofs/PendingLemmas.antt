@@ -1,10 +1,10 @@
 -- One more byte after an incomplete sequence.
-use Rattle.std.proofs.Common.{◌≡◌, ◌≢◌, ℕ, ◌+◌, ◌<◌, ◌≤◌, ◌⊎◌, inl, inr, List, [], ◌∷◌, ◌++◌, length, take, drop, set, slice_index, refl, sym, ap, ◌∙◌, arith, subst}
-use Rattle.std.proofs.lemmas.List.{take_more_set, drop_more, nil_from_length, take_at, length-take, length-set, length-append, get_or-take, get_or-set_other}
+use Rattle.std.proofs.Common.{◌≡◌, ◌≢◌, ℕ, ◌+◌, ◌⊎◌, inl, inr, List, [], ◌∷◌, ◌++◌, length, take, slice_index, refl, arith}
+use Rattle.std.proofs.lemmas.List.{take_at}
 use Rattle.std.proofs.lemmas.Bool.{cases_lt}
 use Rattle.encoding_definitions.specs.Sequence.{IsSequence, IsIncomplete, IsPending}
-use Rattle.encoding_text.specs.Steps.{GoesOn, IsRejected}
-use Rattle.encoding_definitions.proofs.SequenceLemmas.{HasShape, HasOpenShape, HasShape-IsSequence, IsSequence-HasShape, HasOpenShape-IsIncomplete, IsIncomplete-HasOpenShape, length-IsIncomplete, second_two, second_more, second_from, second_two_from, length_by_first}
+use Rattle.encoding_text.specs.Steps.{GoesOn}
+use Rattle.encoding_definitions.proofs.SequenceLemmas.{HasShape, HasOpenShape, HasShape-IsSequence, IsSequence-HasShape, HasOpenShape-IsIncomplete, IsIncomplete-HasOpenShape, second_two, second_more, second_from, second_two_from, length_by_first}
 
 -- the length of the sequences that start with this byte
 abbrev pub SequenceLength : ℕ → ℕ → Type 0
@@ -81,66 +81,6 @@ pub longer_incomplete : (p : List ℕ) (b n : ℕ) → IsIncomplete p → GoesOn
     → IsIncomplete (p ++ b ∷ [])
 longer_incomplete p b n o g l e = IsIncomplete-HasOpenShape _ (longer_shape p b n (HasOpenShape-IsIncomplete p o) g l e)
 
--- ---- in an array of four bytes, with the first `count` pending
-module _ (bytes : List ℕ) (count b : ℕ) (p : List ℕ) (is : p ≡ take count bytes) (four : length bytes ≡ 4) (within : count ≤ 3) (some : p ≢ [])
-    (pending : IsPending p) where
-  long : length p ≡ count
-  long = omega (arith, ap length is, length-take count bytes)
-
-  begins : IsIncomplete p
-  begins = pending_incomplete p some pending
-
-  first : slice_index p 0 ≡ slice_index bytes 0
-  first = let more : 0 < count = omega (arith, long, begins.0) in ap (λ xs. slice_index xs 0) is ∙ get_or-take count bytes 0 0 more
-
-  same_goes_on : GoesOn (slice_index bytes 0) count b → GoesOn (slice_index p 0) (length p) b
-  same_goes_on g = subst (λ a. GoesOn a (length p) b) (sym first) (subst (λ n. GoesOn (slice_index bytes 0) n b) (sym long) g)
-
-  pub pushed_rejected : (GoesOn (slice_index bytes 0) count b → ⊥) → IsRejected p b
-  pushed_rejected n s = n (subst (λ k. GoesOn (slice_index bytes 0) k b) long (subst (λ a. GoesOn a (length p) b) first (goes_on p b begins s)))
-
-  longer : take (count + 1) (set bytes count b) ≡ p ++ b ∷ []
-  longer = take_more_set bytes count b (omega (arith, four, within)) ∙ ap (λ xs. xs ++ b ∷ []) (sym is)
-
-  kept : slice_index (set bytes count b) 0 ≡ slice_index p 0
-  kept = let more : 0 ≢ count = omega (arith, long, begins.0) in get_or-set_other bytes count 0 b 0 more ∙ sym first
-
-  pub pushed_whole : (n : ℕ) → GoesOn (slice_index bytes 0) count b → SequenceLength (slice_index (set bytes count b) 0) n → count + 1 ≡ n
-      → (count + 1 ≤ 4) × (length (set bytes count b) ≡ 4) × (take (count + 1) (set bytes count b) ≡ p ++ b ∷ []) × IsSequence (p ++ b ∷ [])
-  pushed_whole n g l e = (
-    omega (arith, within),
-    length-set bytes count b ∙ four,
-    longer,
-    whole_sequence p b n begins (same_goes_on g) (subst (λ a. SequenceLength a n) kept l) (omega (arith, long)),
-  )
-
-  pub pushed_longer : (n : ℕ) → GoesOn (slice_index bytes 0) count b → SequenceLength (slice_index (set bytes count b) 0) n → count + 1 ≢ n
-      → (count + 1 ≤ 3) × IsPending (take (count + 1) (set bytes count b))
-  pushed_longer n g l e =
-      let o : IsIncomplete (p ++ b ∷ []) =
-      longer_incomplete p b n begins (same_goes_on g) (subst (λ a. SequenceLength a n) kept l) (λ f. e (omega (arith, long))) in
-      (omega (arith, length-IsIncomplete (p ++ b ∷ []) o, length-append p (b ∷ []), long), subst IsPending (sym longer) (inr o))
-
 -- ---- bytes in an array
 pub kept_bytes : (bs rest : List ℕ) → take (length bs) (bs ++ rest) ≡ bs
 kept_bytes bs rest = take_at bs rest (length bs) refl
-
--- ---- after the first bytes of the source
--- p is in an array, as what was pending followed by the bytes read, and the next byte doesn't continue it
-pub resumed_rejected : (old src bytes p : List ℕ) (read count : ℕ) → p ≡ old ++ take read src → take count bytes ≡ p → length bytes ≡ 4 → count ≤ 3
-    → IsPending (take count bytes)
-    → old ≢ [] → read < length src → IsRejected p (slice_index src read)
-    → (read < length src) × (count ≡ length old + read) × IsIncomplete (old ++ take read src)
-    × (b : ℕ) × (more : List ℕ) × (drop read src ≡ b ∷ more) × IsRejected (old ++ take read src) b
-resumed_rejected old src bytes p read count is seen four within pending some short rejected =
-    let long : length (old ++ take read src) ≡ length old + read = omega (arith, length-append old (take read src), length-take read src) in
-    let counted : count ≡ length p = omega (arith, ap length seen, length-take count bytes, four, within) in
-    let not_nil : p ≢ [] = λ e. some (nil_from_length old (omega (arith, ap length (sym is ∙ e), long))) in (
-      short,
-      omega (arith, counted, ap length is, long),
-      subst IsIncomplete is (pending_incomplete p not_nil (subst IsPending seen pending)),
-      slice_index src read,
-      drop (read + 1) src,
-      drop_more src read 0 short,
-      subst (λ xs. IsRejected xs (slice_index src read)) is rejected,
-    )

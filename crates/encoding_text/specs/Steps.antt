@@ -13,8 +13,6 @@ use Rattle.encoding_text.specs.declared.decoder.DecoderResult.{DecoderResult}
 use Rattle.encoding_text.specs.declared.decoder.DecoderResult.TheVariants.{InputEmpty, OutputFull, Malformed}
 use Rattle.encoding_text.specs.declared.utf_8.first.First.{First}
 use Rattle.encoding_text.specs.declared.utf_8.first.First.TheVariants as first
-use Rattle.encoding_text.specs.declared.decoder.pending.Pushed.{Pushed}
-use Rattle.encoding_text.specs.declared.decoder.pending.Pushed.TheVariants as push
 use Rattle.encoding_text.specs.declared.decoder.pending.Resumed.{Resumed}
 use Rattle.encoding_text.specs.declared.decoder.pending.Resumed.TheVariants as resume
 
@@ -62,12 +60,6 @@ GoesOn lead count b = (count ≡ 1 → IsSecond lead b) × (count ≢ 1 → IsCo
 -- the byte b doesn't continue the incomplete sequence x
 abbrev pub IsRejected : List ℕ → ℕ → Type 0
 IsRejected x b = (IsSequence (x ++ b ∷ []) ⊎ IsIncomplete (x ++ b ∷ [])) → ⊥
-
--- one byte after p: a longer incomplete sequence, a whole sequence, or neither
-abbrev pub Pushes : List ℕ → ℕ → Pushed → List ℕ → Type 0
-Pushes p b push.Longer q = q ≡ p ++ b ∷ []
-Pushes p b (push.Complete bytes n) q = (n ≤ 4) × (length bytes ≡ 4) × (take n bytes ≡ p ++ b ∷ []) × IsSequence (p ++ b ∷ []) × (q ≡ [])
-Pushes p b push.Rejected q = IsRejected p b × (q ≡ p)
 
 -- the bytes of the source after p, up to the one that ends the sequence or doesn't continue it
 abbrev pub Resumes : List ℕ → List ℕ → Resumed → ℕ → List ℕ → Type 0

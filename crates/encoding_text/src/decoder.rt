@@ -206,7 +206,7 @@ pub(crate) fn decode<U: CodeUnit>(
     dst: &mut [U],
     last: bool,
 ) -> (DecoderResult, usize, usize)
-    ensures { DecodeStepInto U.encode U.need pending.old src.now dst.old dst.new last result.0
+    ensures { DecodeStepInto U.encode U.MAX_UNITS pending.old src.now dst.old dst.new last result.0
         result.1 result.2 pending.new }
 {
     if pending.is_empty() {
@@ -225,14 +225,14 @@ fn decode_neutral<U: CodeUnit>(
     last: bool,
 ) -> (DecoderResult, usize, usize)
     requires neutral { pending.old ≡ [] }
-    ensures { DecodeStepInto U.encode U.need [] src.now dst.old dst.new last result.0 result.1
+    ensures { DecodeStepInto U.encode U.MAX_UNITS [] src.now dst.old dst.new last result.0 result.1
         result.2 pending.new }
 {
     let (read, written) = U::convert_up_to_invalid(src, dst);
     if read == src.len() {
         return (DecoderResult::InputEmpty, read, written);
     }
-    if dst.len() - written < U::max_units_per_scalar() {
+    if dst.len() - written < U::MAX_UNITS {
         return (DecoderResult::OutputFull, read, written);
     }
     let (result, more) = pending.end_before(&src[read..], last);
@@ -248,13 +248,13 @@ fn decode_pending<U: CodeUnit>(
     last: bool,
 ) -> (DecoderResult, usize, usize)
     requires unfinished { IsIncomplete pending.old }
-    ensures { DecodeStepInto U.encode U.need pending.old src.now dst.old dst.new last result.0
+    ensures { DecodeStepInto U.encode U.MAX_UNITS pending.old src.now dst.old dst.new last result.0
         result.1 result.2 pending.new }
 {
     if src.is_empty() {
         return (pending.end(last), 0, 0);
     }
-    if dst.len() < U::max_units_per_scalar() {
+    if dst.len() < U::MAX_UNITS {
         return (DecoderResult::OutputFull, 0, 0);
     }
     match pending.resume(src) {

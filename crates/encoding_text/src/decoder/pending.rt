@@ -3,11 +3,9 @@ ghost use Rattle.std.specs.Prelude.{◌≡◌, ◌≢◌, ℕ, ◌<◌, ◌≤�
 ghost use Rattle.encoding_definitions.specs.Sequence.{IsIncomplete, IsPending};
 ghost use Rattle.encoding_definitions.specs.Parts.{BeginsWithNoCharacter};
 ghost use Rattle.encoding_text.specs.Decoding.{IsMalformed};
-ghost use Rattle.encoding_text.specs.Steps.{GoesOn};
 
 use super::DecoderResult;
-use crate::utf_8::first::{First, goes_on};
-use encoding_kernels::scalar::sequence_length;
+use crate::utf_8::first::First;
 use std::marker::Model;
 
 /// None, or an incomplete sequence.
@@ -15,17 +13,6 @@ use std::marker::Model;
 pub(crate) struct Pending {
     bytes: [u8; 4],
     count: usize,
-}
-
-/// What one more byte makes of an incomplete sequence.
-#[derive(Drop)]
-pub(crate) enum Pushed {
-    /// A longer incomplete sequence.
-    Longer,
-    /// A well-formed sequence: these bytes, and its length.
-    Complete([u8; 4], usize),
-    /// Neither: the byte was not read.
-    Rejected,
 }
 
 /// What a source makes of an incomplete sequence.
@@ -48,7 +35,7 @@ impl Model for Pending {
 }
 
 impl Pending {
-    ghost use Rattle.encoding_text.specs.Steps.{Pushes, Resumes};
+    ghost use Rattle.encoding_text.specs.Steps.{Resumes};
     ghost use Rattle.encoding_text.specs.Steps.{IsResultAtEnd, IsResultWithoutCharacter};
 
     /// Returns no bytes.
@@ -89,25 +76,6 @@ impl Pending {
         self.count
     }
 
-    /// Adds one more byte if it continues the incomplete sequence, and returns what it makes of it.
-    fn push(&mut self, byte: u8) -> Pushed
-        requires unfinished { self.old ≢ [] }
-        ensures { Pushes self.old byte result self.new }
-    {
-        if !goes_on(self.bytes[0], self.count, byte) {
-            return Pushed::Rejected;
-        }
-        let mut bytes = self.bytes;
-        bytes[self.count] = byte;
-        let count = self.count + 1;
-        if count == sequence_length(bytes[0]) {
-            *self = Pending::none();
-            return Pushed::Complete(bytes, count);
-        }
-        *self = Pending { bytes, count };
-        Pushed::Longer
-    }
-
     /// Reads bytes of the source as long as they continue the incomplete sequence. Returns what they make of it and how
     /// many they are.
     #[inline(never)]
@@ -115,21 +83,28 @@ impl Pending {
         requires unfinished { self.old ≢ [] }
         ensures { Resumes self.old src.now result.0 result.1 self.new }
     {
-        for (read, byte) in src.iter().enumerate() {
-            match self.push(*byte) {
-                Pushed::Longer => {}
-                Pushed::Complete(bytes, count) => return (
-                    Resumed::Complete(bytes, count),
-                    read + 1,
-                ),
-                Pushed::Rejected => {
-                    let count = self.count;
-                    *self = Pending::none();
-                    return (Resumed::Rejected(count), read);
-                }
+        let before = self.count;
+        let mut bytes = self.bytes;
+        let more = src.len().min(bytes.len() - before);
+        bytes[before..before + more].copy_from_slice(&src[..more]);
+        match First::by_bytes(&bytes[..before + more]) {
+            First::Incomplete => {
+                *self = Pending {
+                    bytes,
+                    count: before + more,
+                };
+                (Resumed::Ended, more)
             }
+            First::Malformed(length) => {
+                *self = Pending::none();
+                (Resumed::Rejected(length), length - before)
+            }
+            First::Character(length) => {
+                *self = Pending::none();
+                (Resumed::Complete(bytes, length), length - before)
+            }
+            First::Ascii => unreachable!(),
         }
-        (Resumed::Ended, src.len())
     }
 
     /// Ends a call that read all of its source, and returns what ended it. If no more bytes come, pending bytes are a

@@ -19,7 +19,7 @@ pub(crate) trait Replacing: CodeUnit {
     /// Returns the length of U+FFFD.
     fn replacement_length() -> usize
         ensures length { result ≡ length (Self.encode 0xFFFD) }
-        ensures at_most { result ≤ Self.need };
+        ensures at_most { result ≤ Self.MAX_UNITS };
 
     /// Writes U+FFFD to the start of `dst`, and returns its length.
     fn write_replacement(dst: &mut [Self]) -> usize

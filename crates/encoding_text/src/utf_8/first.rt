@@ -3,7 +3,6 @@
 ghost use Rattle.std.specs.Prelude.{◌<◌, ◌≤◌, ◌↔◌, ◌⊎◌, [], ◌∷◌, length, take, slice_index, IfSome, IfNone, IsTrue};
 ghost use Rattle.encoding_definitions.specs.Sequence.{IsSequence, IsIncomplete};
 ghost use Rattle.encoding_definitions.specs.Parts.{BeginsWithNoCharacter};
-ghost use Rattle.encoding_text.specs.Steps.{GoesOn};
 
 use crate::utf_8::table::{UTF8_DATA, law_table};
 use encoding_kernels::scalar::{
@@ -42,17 +41,6 @@ fn is_four(lead: u8, second: u8, third: u8, fourth: u8) -> bool
     law_table(lead, second, third, fourth);
     let common = UTF8_DATA.table[second as usize] & UTF8_DATA.table[lead as usize + 0x80];
     u16::from(common) | u16::from(third >> 6) | (u16::from(fourth & 0xC0) << 2) == 0x202
-}
-
-/// Returns whether the byte may follow the first `count` bytes of a sequence that starts with `lead`.
-pub(crate) fn goes_on(lead: u8, count: usize, byte: u8) -> bool
-    ensures { IsTrue result ↔ GoesOn lead count byte }
-{
-    if count == 1 {
-        is_second(lead, byte)
-    } else {
-        is_continuation(byte)
-    }
 }
 
 impl First {
@@ -97,7 +85,12 @@ impl First {
             if known == bytes.len() {
                 return First::Incomplete;
             }
-            if !goes_on(lead, known, bytes[known]) {
+            let goes_on = if known == 1 {
+                is_second(lead, bytes[1])
+            } else {
+                is_continuation(bytes[known])
+            };
+            if !goes_on {
                 return First::Malformed(known);
             }
             known += 1;

@@ -1,5 +1,7 @@
 //! From UTF-8 to UTF-16, and its twin from UTF-8 to UTF-8. A conversion leaves the rest of `dst` unchanged.
 ghost use Rattle.std.specs.Prelude.{◌≡◌, ℕ, ◌<◌, ◌≤◌, List, length, encode_utf8};
+ghost use Rattle.std.proofs.Common.{rules};
+ghost use Rattle.std.proofs.lemmas.Grind.{common_steps};
 ghost use Rattle.std.specs.List.{flat_map};
 ghost use Rattle.std.specs.Char.{IsScalar};
 ghost use Rattle.std.specs.Char.Escape.{encode_utf16};
@@ -26,29 +28,27 @@ pub(crate) trait CodeUnit: Copy {
     // a scalar value in these code units
     ghost encode: { ℕ → List Self };
 
-    // the most code units that a character takes: the space that a call needs to make progress
-    ghost need: { ℕ };
+    ghost MAX_UNITS: { ℕ };
 
-    /// Returns the most code units that a character takes.
-    fn max_units_per_scalar() -> usize
-        ensures most { result ≡ need }
-        ensures holds_any { (c : ℕ) → IsScalar c → length (encode c) ≤ need };
+    /// The most code units that a character takes: the space that a call needs to make progress.
+    const MAX_UNITS: usize;
 
     /// Converts UTF-8 up to the first byte that is in no character, or as far as whole characters fit. Returns how many
     /// bytes it read and how many code units it wrote.
     fn convert_up_to_invalid(src: &[u8], dst: &mut [Self]) -> (usize, usize)
         ensures { ConvertsUntilFull encode src.now dst.old dst.new result.0 result.1 };
+
+    ghost holds_any: { (c : ℕ) → IsScalar c → length (encode c) ≤ MAX_UNITS };
 }
 
 impl CodeUnit for u16 {
     ghost encode = { encode_utf16 };
 
-    ghost need = { 2 };
+    ghost MAX_UNITS = { 2 };
 
-    #[inline]
-    fn max_units_per_scalar() -> usize {
-        2
-    }
+    const MAX_UNITS: usize = 2;
+
+    ghost holds_any = { Prim.search (rules, common_steps) };
 
     #[tactic(auto, using(crate::proofs::ConvertingLemmas::converts_prefix))]
     #[inline(always)]
@@ -60,17 +60,23 @@ impl CodeUnit for u16 {
 impl CodeUnit for u8 {
     ghost encode = { encode_utf8 };
 
-    ghost need = { 4 };
+    ghost MAX_UNITS = { 4 };
 
-    #[tactic(auto, using(encoding_definitions::proofs::EncodingLemmas::length_encode_utf8_le))]
-    #[inline]
-    fn max_units_per_scalar() -> usize {
-        4
-    }
+    const MAX_UNITS: usize = 4;
 
-    #[inline]
+    ghost holds_any = { Prim.search (rules, common_steps) };
+
+    /// The characters that fit are those of the prefix that is as long as `dst`.
+    #[tactic(auto, using(std::proofs::lemmas::Grind::common_steps, crate::proofs::ConvertingLemmas::copies))]
     fn convert_up_to_invalid(src: &[u8], dst: &mut [u8]) -> (usize, usize) {
-        copy_utf8_up_to_invalid(src, dst)
+        let room = src.len().min(dst.len());
+        if room <= SHORT && is_short(&src[..room]) {
+            copy_prefix(&src[..room], dst);
+            return (room, room);
+        }
+        let length = valid_beyond_ascii(&src[..room]);
+        copy_prefix(&src[..length], dst);
+        (length, length)
     }
 }
 
@@ -130,22 +136,6 @@ pub(crate) fn convert_text(src: &[u8], dst: &mut [u16]) -> usize
     }
 }
 
-/// Returns how many bytes are validated before they are converted: none if the first character precedes a long run of ASCII, and
-/// otherwise as many as are there, and as surely fit into `room` code units, up to a limit.
-#[inline(always)]
-fn piece_length(src: &[u8], room: usize) -> usize
-    ensures { (result ≤ length src.now) × (result ≤ room) }
-{
-    let ascii = BytesBelow {
-        bytes: src,
-        bound: ASCII_END,
-    };
-    if src.len() >= 4 + FOUR_BLOCKS && AllPass::<HALF_BLOCK, FOUR_BLOCKS>::pass(&ascii, 4) {
-        return 0;
-    }
-    src.len().min(room).min(CONVERTED_PIECE)
-}
-
 /// Converts UTF-8 to UTF-16 as `convert_utf8_to_utf16_up_to_invalid` does. Out of line, so that the ASCII before other
 /// text needs few registers.
 ///
@@ -164,8 +154,15 @@ fn convert_turns(src: &[u8], dst: &mut [u16]) -> (usize, usize)
             read += ascii;
             written += ascii;
         }
-        let room = piece_length(&src[read..], dst.len() - written);
-        let valid = utf8_valid_up_to(&src[read..read + room]);
+        let ascii = BytesBelow {
+            bytes: &src[read..],
+            bound: ASCII_END,
+        };
+        let before_run = src.len() - read >= 4 + FOUR_BLOCKS
+            && AllPass::<HALF_BLOCK, FOUR_BLOCKS>::pass(&ascii, 4);
+        let most = if before_run { 0 } else { CONVERTED_PIECE };
+        let piece = most.min(src.len() - read).min(dst.len() - written);
+        let valid = utf8_valid_up_to(&src[read..read + piece]);
         written += convert_text(&src[read..read + valid], &mut dst[written..]);
         read += valid;
         let Some(length) = character_length(&src[read..]) else {
@@ -208,22 +205,4 @@ pub fn convert_utf8_to_utf16_up_to_invalid(src: &[u8], dst: &mut [u16]) -> (usiz
         return convert_short_prefix(src, dst);
     }
     convert_after_ascii(src, dst)
-}
-
-/// Copies UTF-8 up to the first byte that is in no character, or as far as whole characters fit. Returns how many bytes
-/// it read and how many it wrote, which is the same.
-///
-/// The characters that fit are those of the prefix that is as long as `dst`.
-#[tactic(auto, using(std::proofs::lemmas::Grind::common_steps, crate::proofs::ConvertingLemmas::copies))]
-fn copy_utf8_up_to_invalid(src: &[u8], dst: &mut [u8]) -> (usize, usize)
-    ensures { ConvertsUntilFull encode_utf8 src.now dst.old dst.new result.0 result.1 }
-{
-    let room = src.len().min(dst.len());
-    if room <= SHORT && is_short(&src[..room]) {
-        copy_prefix(&src[..room], dst);
-        return (room, room);
-    }
-    let length = valid_beyond_ascii(&src[..room]);
-    copy_prefix(&src[..length], dst);
-    (length, length)
 }

@@ -1,10 +1,13 @@
-use Rattle.std.proofs.Common.{◌<◌, length, slice_index, inr, arith}
+use Rattle.std.proofs.Common.{◌<◌, length, slice_index, inr, arith, subst, sym}
 use Rattle.std.proofs.lemmas.Bool.{both_ways}
 use Rattle.std.proofs.lemmas.List.{length-take}
+use Rattle.encoding_definitions.specs.Sequence.{IsSecond}
 use Rattle.encoding_definitions.proofs.SequenceLemmas.{length-IsIncomplete}
+use Rattle.encoding_text.specs.Steps.{GoesOn}
 use Rattle.encoding_text.proofs.CallLemmas.{begins_before}
 use Rattle.encoding_text.proofs.FirstLemmas.{single, incomplete_none, next_longer, next_rejected, next_whole, several_length, shows_malformed, whole_incomplete}
 use Rattle.encoding_text.proofs.utf_8.first.First.by_bytes.Goals as goal
+use Rattle.encoding_text.proofs.utf_8.first.First.by_bytes.Goals.{then-known-eq1, else-known-eq1}
 
 pub returns-then-not-begins_several : goal.returns-then-not-begins_several
 returns-then-not-begins_several c =
@@ -38,7 +41,10 @@ returns-then-not-goes_on c =
     let inside : known < length bytes = omega (arith, had.within) in
     shows_malformed bytes known (omega (arith, length-IsIncomplete _ begun, had.within, length-take known bytes)) had.within
     (λ last. next_rejected bytes known c.sequence_length-length.result had.some inside begun c.sequence_length-length.ensures last
-    (λ g. both_ways _ c.if-not-goes_on.true (c.goes_on.ensures.1 g)))
+    (λ g. both_ways _ c.if-not-goes_on.true (elim c.if-known-eq1.branch [
+      | then-known-eq1 w ↦ rw w.goes_on-is (w.is_second-goes_on.ensures.1 (subst (λ k. IsSecond (slice_index bytes 0) (slice_index bytes k)) w.if-known-eq1.true (g.0 w.if-known-eq1.true)))
+      | else-known-eq1 w ↦ rw w.goes_on-is (w.is_continuation-goes_on.ensures.1 (g.1 w.if-known-eq1.false))
+    ])))
 
 pub loop-known-preserved : goal.loop-known-preserved
 loop-known-preserved c =
@@ -48,7 +54,13 @@ loop-known-preserved c =
     let had = c.loop-known.invariant in
     let begun = had.begun (omega arith) in
     let inside : known < length bytes = omega (arith, had.within) in
-    let goes_on = c.goes_on.ensures.0 c.if-not-goes_on.false in
+    let next = slice_index bytes known in
+    let goes_on : GoesOn (slice_index bytes 0) known next = elim c.if-known-eq1.branch [
+      | then-known-eq1 w ↦ let s = w.is_second-goes_on.ensures.0 (rw w.goes_on-is at c.if-not-goes_on.false) in
+          (λ e. subst (λ k. IsSecond (slice_index bytes 0) (slice_index bytes k)) (sym e) s, λ n. absurd (n w.if-known-eq1.true))
+      | else-known-eq1 w ↦ let s = w.is_continuation-goes_on.ensures.0 (rw w.goes_on-is at c.if-not-goes_on.false) in
+          (λ e. absurd (w.if-known-eq1.false e), λ _. s)
+    ] in
     record {
       some = omega arith;
       within = omega (arith, inside);
