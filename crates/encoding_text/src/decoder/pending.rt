@@ -48,17 +48,6 @@ impl Pending {
         }
     }
 
-    /// Returns the incomplete sequence as pending bytes.
-    pub(crate) fn hold(incomplete: &[u8]) -> Pending
-        requires incomplete { IsIncomplete incomplete.now }
-        ensures { result ≡ incomplete.now }
-    {
-        let count = incomplete.len();
-        let mut bytes = [0; 4];
-        bytes[..count].copy_from_slice(incomplete);
-        Pending { bytes, count }
-    }
-
     /// Returns whether nothing is pending.
     pub(crate) fn is_empty(&self) -> bool
         ensures empty { IsTrue result ↔ (self.now ≡ []) }
@@ -148,8 +137,11 @@ impl Pending {
         match First::by_bytes(rest) {
             First::Malformed(length) => (DecoderResult::Malformed(length as u8, 0), length),
             First::Incomplete => {
-                *self = Pending::hold(rest);
-                (self.end(last), rest.len())
+                let mut bytes = [0; 4];
+                let count = rest.len();
+                bytes[..count].copy_from_slice(rest);
+                *self = Pending { bytes, count };
+                (self.end(last), count)
             }
             First::Ascii => unreachable!(),
             First::Character(_) => unreachable!(),

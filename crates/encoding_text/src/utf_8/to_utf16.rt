@@ -1,7 +1,8 @@
 //! From UTF-8 to UTF-16, and its twin from UTF-8 to UTF-8. A conversion leaves the rest of `dst` unchanged.
 ghost use Rattle.std.specs.Prelude.{◌≡◌, ℕ, ◌<◌, ◌≤◌, List, length, encode_utf8};
-ghost use Rattle.std.proofs.Common.{rules};
+ghost use Rattle.std.proofs.Common.{arith, rules};
 ghost use Rattle.std.proofs.lemmas.Grind.{common_steps};
+ghost use Rattle.std.proofs.lemmas.Str.{length-encode, len_utf8_bounds};
 ghost use Rattle.std.specs.List.{flat_map};
 ghost use Rattle.std.specs.Char.{IsScalar};
 ghost use Rattle.std.specs.Char.Escape.{encode_utf16};
@@ -64,7 +65,7 @@ impl CodeUnit for u8 {
 
     const MAX_UNITS: usize = 4;
 
-    ghost holds_any = { Prim.search (rules, common_steps) };
+    ghost holds_any = { λ c _. Prim.omega (arith, length-encode c, len_utf8_bounds c) };
 
     /// The characters that fit are those of the prefix that is as long as `dst`.
     #[tactic(auto, using(std::proofs::lemmas::Grind::common_steps, crate::proofs::ConvertingLemmas::copies))]
