@@ -96,7 +96,8 @@ module _ (p src bytes new : List ℕ) (count m : ℕ) (is : take count bytes ≡
         ∙ ap (λ xs. xs ++ drop m src) (sym rest)
 
     -- a character that begins with p has more bytes
-    pub resumed_whole : IsSequence (take n bs) → (0 < count) × (count < n) × (n ≤ count + m) × (take n array ≡ p ++ take (n - count) src) × IsSequence (p ++ take (n - count) src)
+    pub resumed_whole : IsSequence (take n bs) → (0 < count) × (count < n) × (n ≤ count + m) × (take n array ≡ p ++ take (n - count) src)
+        × IsSequence (p ++ take (n - count) src)
     resumed_whole s =
         let longer : count < n = elim (cases_lt count n) [
           | inl l ↦ l

@@ -1,12 +1,12 @@
 -- Longest prefixes that may be the whole list: the ASCII prefix before the first other unit, and the bytes that the
 -- ISO-2022-JP decoder returns unchanged, by strides.
 use borrow.Rule.Slice.PartMut.{put_mid}
-use Rattle.std.proofs.Common.{ℕ, ◌+◌, ◌-◌, ◌<◌, ◌≤◌, inl, inr, List, ◌++◌, length, take, drop, slice_index, ap, eqb, sym, refl, ◌∙◌, arith, subst, append_assoc, Option, Some, None, ◌≡◌, ◌≢◌, Bool, true, false, ◌||◌, leb, w8, bit_or, replicate, length-drop, length-take-le, take-add}
+use Rattle.std.proofs.Common.{ℕ, ◌+◌, ◌-◌, ◌<◌, ◌≤◌, inl, inr, List, ◌++◌, length, take, drop, slice_index, ap, eqb, sym, refl, ◌∙◌, arith, subst, Option, Some, None, ◌≡◌, ◌≢◌, Bool, true, false, ◌||◌, leb, w8, bit_or, replicate, length-drop, length-take-le, take-add}
 use Rattle.std.proofs.lemmas.Str.{IsUtf8-from_ascii}
 use Rattle.std.specs.Prelude.{IsTrue, ◌↔◌}
 use Rattle.std.specs.Str.{IsAscii, IsUtf8}
 use Rattle.std.proofs.lemmas.Bool.{cases_lt, eqb-true, eq-eqb}
-use Rattle.std.proofs.lemmas.List.{take_all, take_rest, take-append-drop, take-take, drop-append-le, length-take, length-drop, get_or-take, get_or-drop}
+use Rattle.std.proofs.lemmas.List.{take_all, take_rest, take-take, length-take, length-drop, get_or-take, get_or-drop}
 use Rattle.encoding_definitions.specs.Ascii.{IsFirstOther, prefix_length_by, IsIso2022JpAscii}
 use Rattle.encoding_definitions.specs.Prefixes.{IsLongestPrefix, WritesPrefix}
 use Rattle.encoding_kernels.proofs.ScanLemmas.{after_prefix, ascii_prefix_at, below_prefix, Each-at, prefix_before, unit_is}

@@ -1,6 +1,5 @@
-use Rattle.std.proofs.Common.{◌-◌, arith, length, length-take-le, refl}
+use Rattle.std.proofs.Common.{◌-◌, arith, length}
 use Rattle.std.proofs.lemmas.List.{take_rest}
-use Rattle.encoding_definitions.proofs.PrefixesLemmas.{WritesPrefix-same}
 use Rattle.encoding_text.proofs.WholePrefixesLemmas.{first_run, fitting_ascii, fitting_prefix, fitting_copied, prefix_on, copied_on}
 use Rattle.encoding_text.proofs.ascii.prefixes.unpack_rest.Goals as goal
 

@@ -8,7 +8,8 @@ by_bytes-requires-clause-lead c =
 
 pub invariant_of-self : goal.invariant_of-self
 invariant_of-self c =
-    let ended = resumed_longer _ _ _ _ _ _ c.self.view_is c.self.told c.self.invariant c.requires.unfinished c.min-more.ensures c.copy_from_slice.ensures.after c.in-Incomplete.ensures.1 in
+    let ended = resumed_longer _ _ _ _ _ _ c.self.view_is c.self.told c.self.invariant c.requires.unfinished c.min-more.ensures c.copy_from_slice.ensures.after
+    c.in-Incomplete.ensures.1 in
     (ended.0, c.in-Incomplete.ensures.1)
 
 pub overflow_sub-result : goal.overflow_sub-result
@@ -31,7 +32,8 @@ unreachable-requires c =
 
 pub returns-in-Incomplete : goal.returns-in-Incomplete
 returns-in-Incomplete c =
-    let ended = resumed_longer _ _ _ _ _ _ c.self.view_is c.self.told c.self.invariant c.requires.unfinished c.min-more.ensures c.copy_from_slice.ensures.after c.in-Incomplete.ensures.1 in
+    let ended = resumed_longer _ _ _ _ _ _ c.self.view_is c.self.told c.self.invariant c.requires.unfinished c.min-more.ensures c.copy_from_slice.ensures.after
+    c.in-Incomplete.ensures.1 in
     (ended.1, ended.2)
 
 pub returns-in-Malformed : goal.returns-in-Malformed
@@ -44,7 +46,8 @@ pub returns-in-Character : goal.returns-in-Character
 returns-in-Character c =
     let r = resumed_whole _ _ _ _ _ _ c.self.view_is c.self.told c.self.invariant c.requires.unfinished c.min-more.ensures c.copy_from_slice.ensures.after
     _ c.in-Character.ensures.1 c.in-Character.ensures.2 in
-    let four = resumed_four _ _ _ _ _ _ c.self.view_is c.self.told c.self.invariant c.requires.unfinished c.min-more.ensures c.copy_from_slice.ensures.after in (
+    let four =
+    resumed_four _ _ _ _ _ _ c.self.view_is c.self.told c.self.invariant c.requires.unfinished c.min-more.ensures c.copy_from_slice.ensures.after in (
       omega (arith, r.1),
       omega (arith, r.1, r.2, c.min-more.ensures),
       omega (arith, r.2, c.min-more.ensures, c.self.invariant.0),

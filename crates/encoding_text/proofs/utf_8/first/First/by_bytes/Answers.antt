@@ -42,7 +42,8 @@ returns-then-not-goes_on c =
     shows_malformed bytes known (omega (arith, length-IsIncomplete _ begun, had.within, length-take known bytes)) had.within
     (λ last. next_rejected bytes known c.sequence_length-length.result had.some inside begun c.sequence_length-length.ensures last
     (λ g. both_ways _ c.if-not-goes_on.true (elim c.if-known-eq1.branch [
-      | then-known-eq1 w ↦ rw w.goes_on-is (w.is_second-goes_on.ensures.1 (subst (λ k. IsSecond (slice_index bytes 0) (slice_index bytes k)) w.if-known-eq1.true (g.0 w.if-known-eq1.true)))
+      | then-known-eq1 w ↦ let s = g.0 w.if-known-eq1.true in
+          rw w.goes_on-is (w.is_second-goes_on.ensures.1 (subst (λ k. IsSecond (slice_index bytes 0) (slice_index bytes k)) w.if-known-eq1.true s))
       | else-known-eq1 w ↦ rw w.goes_on-is (w.is_continuation-goes_on.ensures.1 (g.1 w.if-known-eq1.false))
     ])))
 
