@@ -16,7 +16,8 @@ use crate::utf16::source::{CodeUnits, UnitBytes};
 /// Copies the ASCII prefix of `src`, each code unit as a byte, as far as `dst` holds it. Returns its length.
 #[inline(always)]
 fn copy_ascii<const BIG: bool>(src: UnitBytes<'_, BIG>, dst: &mut [u8]) -> usize
-    ensures { WritesBmp (units_of BIG (bytes_in src.entry.pairs.now)) dst.old dst.new result result }
+    ensures { WritesBmp (units_of BIG (bytes_in src.entry.pairs.now)) dst.old dst.new
+        result result }
 {
     let count = src.count().min(dst.len());
     copy_ascii_units(BIG, src.pairs.as_flattened(), &mut dst[..count])
@@ -29,7 +30,8 @@ fn convert_ascii_and_blocks<const BIG: bool>(
     src: UnitBytes<'_, BIG>,
     dst: &mut [u8],
 ) -> (usize, usize)
-    ensures { WritesBmp (units_of BIG (bytes_in src.entry.pairs.now)) dst.old dst.new result.0 result.1 }
+    ensures { WritesBmp (units_of BIG (bytes_in src.entry.pairs.now)) dst.old dst.new
+        result.0 result.1 }
 {
     let count = src.count();
     let mut read = 0;
@@ -58,7 +60,8 @@ pub fn convert_up_to_surrogate<const BIG: bool>(
     ensures stops { result.0 < length (units_of BIG (bytes_in src.entry.pairs.now))
         → IsScalar (slice_index (units_of BIG (bytes_in src.entry.pairs.now)) result.0)
         → length dst.old < result.1
-        + length (encode_utf8 (slice_index (units_of BIG (bytes_in src.entry.pairs.now)) result.0)) }
+        + length (encode_utf8
+        (slice_index (units_of BIG (bytes_in src.entry.pairs.now)) result.0)) }
 {
     let (mut read, mut written) = convert_ascii_and_blocks(src, dst);
     while read < src.count() {

@@ -1,4 +1,4 @@
-use Rattle.std.proofs.Common.{◌∙◌, refl, ap, not, length-take-le, length-drop, sym, length, drop, arith}
+use Rattle.std.proofs.Common.{◌+◌, ◌≤◌, ◌∙◌, refl, ap, not, length-take-le, length-drop, sym, length, drop, arith}
 use Rattle.std.proofs.lemmas.Bool.{ltb-true}
 use Rattle.encoding_kernels.proofs.OverwriteLemmas.{due_block_from}
 use Rattle.encoding_kernels.proofs.utf16_to_utf8.kinds.convert_joined_run.Goals as goal
@@ -11,7 +11,8 @@ loop-fits-preserved g c =
     let room = here.room c.loop-fits-test.true in
     record {
       converted = due_block_from us c.loop-fits.units c.args.dst.now c.loop-fits.dst _ c.args.due c.loop-fits.read c.loop-fits.written c.loop-fits.spilled
-          _ _ here.loaded here.converted (omega (arith, room, c.min-end.ensures, c.saturating_sub-blocks_end.ensures, c.count.ensures.count)) c.requires.dst_length
+          _ _ here.loaded here.converted (omega (arith, room, c.min-end.ensures, c.saturating_sub-blocks_end.ensures, c.count.ensures.count))
+          c.requires.dst_length
           c.convert-bytes.ensures.stored;
       room = λ t. elim c.if-read-end.branch [
         | then-read-end w ↦ omega (arith, w.if-read-end.true)
@@ -62,9 +63,10 @@ pub convert-bytes-requires-clause-dst_length : goal.convert-bytes-requires-claus
 convert-bytes-requires-clause-dst_length g c =
     let here = c.loop-fits.invariant in
     let us = g.S.CodeUnits.units c.args.src in
-    let room = here.room c.loop-fits-test.true in (
-      ap length here.loaded ∙ length-take-le 16 (drop c.loop-fits.read us) (omega (arith, length-drop c.loop-fits.read us, room, c.min-end.ensures, c.saturating_sub-blocks_end.ensures, c.count.ensures.count)),
-      omega (arith, room, here.converted.bound, here.converted.written.long, c.requires.dst_length, c.min-end.ensures, c.saturating_sub-blocks_end.ensures, c.count.ensures.count),
+    let room = here.room c.loop-fits-test.true in
+    let inside : c.loop-fits.read + 32 ≤ length us = omega (arith, room, c.min-end.ensures, c.saturating_sub-blocks_end.ensures, c.count.ensures.count) in (
+      ap length here.loaded ∙ length-take-le 16 (drop c.loop-fits.read us) (omega (arith, length-drop c.loop-fits.read us, inside)),
+      omega (arith, inside, here.converted.bound, here.converted.written.long, c.requires.dst_length),
     )
 
 pub convert-bytes-requires-clause-kind : goal.convert-bytes-requires-clause-kind
