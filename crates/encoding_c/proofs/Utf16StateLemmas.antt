@@ -6,7 +6,8 @@ use Rattle.encoding_text.specs.Parts.{Part, Character, IllFormed}
 use Rattle.encoding_text.specs.declared.utf_16.ByteOrder.{ByteOrder}
 use Rattle.encoding_text.specs.declared.decoder.DecoderResult.{DecoderResult}
 use Rattle.encoding_text.specs.declared.decoder.DecoderResult.TheVariants.{InputEmpty, OutputFull, Malformed}
-use Rattle.encoding_streams.specs.Utf16Parts.{bytes_of_scalars, IsPendingUtf16, IsFirstPartUtf16}
+use Rattle.encoding_text.specs.Utf16Bytes.{bytes_of_scalars}
+use Rattle.encoding_streams.specs.Utf16Parts.{IsPendingUtf16, IsFirstPartUtf16}
 use Rattle.encoding_streams.specs.Utf16Decoding.{IsUtf16DecodeResult, DecodeUtf16StepInto}
 use Rattle.encoding_streams.proofs.Utf16ByteLemmas.{no_character_pending}
 use Rattle.encoding_streams.proofs.Utf16WindowLemmas.{none_done, not_unpaired}

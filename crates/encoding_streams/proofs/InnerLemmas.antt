@@ -17,7 +17,8 @@ use Rattle.encoding_text.specs.declared.utf_16.ByteOrder.TheVariants.{LittleEndi
 use Rattle.encoding_text.specs.declared.decoder.DecoderResult.{DecoderResult}
 use Rattle.encoding_text.specs.declared.decoder.DecoderResult.TheVariants.{InputEmpty, OutputFull, Malformed}
 use Rattle.encoding_streams.specs.declared.encoding.Encoding.TheVariants.{Utf8}
-use Rattle.encoding_streams.specs.Utf16Parts.{bytes_of_scalars, bytes_of_utf16, IsFirstPartUtf16, IsPendingUtf16}
+use Rattle.encoding_text.specs.Utf16Bytes.{bytes_of_scalars}
+use Rattle.encoding_streams.specs.Utf16Parts.{bytes_of_utf16, IsFirstPartUtf16, IsPendingUtf16}
 use Rattle.encoding_streams.specs.Utf16Decoding.{DecodeUtf16StepInto, IsUtf16DecodeResult, NeedsMore, max_utf8_length_from_utf16}
 use Rattle.encoding_streams.specs.Decoders.{IsReportingCall, EndsReporting, FittingBeginsIn, decoding, bytes_in, max_utf8_length_with_replacement_in}
 use Rattle.encoding_streams.specs.DecoderSteps.{encoding_of}

@@ -14,11 +14,11 @@ use Rattle.std.proofs.str.Utf16.{one_unit}
 use lib.Utf8.{scalar_cases}
 use Rattle.encoding_text.specs.Utf16.{IsHighSurrogate, IsLowSurrogate}
 use Rattle.encoding_text.specs.Encoding.{IsPendingSurrogate}
-use Rattle.encoding_text.specs.Utf16Bytes.{unit_bytes, utf16_bytes}
+use Rattle.encoding_text.specs.Utf16Bytes.{bytes_of_scalars, unit_bytes, utf16_bytes}
 use Rattle.encoding_text.specs.declared.utf_16.ByteOrder.{ByteOrder}
 use Rattle.encoding_text.specs.declared.utf_16.ByteOrder.TheVariants.{LittleEndian, BigEndian}
 use Rattle.encoding_definitions.proofs.Utf16Lemmas.{halves}
-use Rattle.encoding_streams.specs.Utf16Parts.{bytes_of_scalars, IsPendingUtf16}
+use Rattle.encoding_streams.specs.Utf16Parts.{IsPendingUtf16}
 
 -- ---- a code unit
 -- the code unit of two bytes

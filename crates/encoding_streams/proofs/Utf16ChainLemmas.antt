@@ -10,7 +10,8 @@ use Rattle.encoding_text.specs.declared.decoder.DecoderResult.{DecoderResult}
 use Rattle.encoding_text.specs.declared.decoder.DecoderResult.TheVariants.{InputEmpty, OutputFull, Malformed}
 use Rattle.encoding_text.proofs.AnyLemmas.{Any-cons, Any-none}
 use Rattle.encoding_runs.specs.Calls.{Call, IsChain, read_in_all, pending_after, some_last, AreYieldedInSequence}
-use Rattle.encoding_streams.specs.Utf16Parts.{bytes_of_scalars, bytes_of_utf16, IsPendingUtf16, StartsWithUtf16}
+use Rattle.encoding_text.specs.Utf16Bytes.{bytes_of_scalars}
+use Rattle.encoding_streams.specs.Utf16Parts.{bytes_of_utf16, IsPendingUtf16, StartsWithUtf16}
 use Rattle.encoding_streams.specs.Utf16Decoding.{DecodeUtf16Step}
 use Rattle.encoding_streams.specs.Utf16Calls.{YieldUtf16Parts}
 use Rattle.encoding_streams.proofs.Utf16ByteLemmas.{length-pending}

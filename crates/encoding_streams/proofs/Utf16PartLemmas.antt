@@ -11,10 +11,10 @@ use Rattle.std.proofs.lemmas.List.{append-nil, length-append}
 use Rattle.encoding_text.specs.Parts.{Part, Character, IllFormed}
 use Rattle.encoding_text.specs.Utf16.{IsHighSurrogate, IsLowSurrogate}
 use Rattle.encoding_text.specs.Encoding.{IsPendingSurrogate}
-use Rattle.encoding_text.specs.Utf16Bytes.{unit_bytes, utf16_bytes}
+use Rattle.encoding_text.specs.Utf16Bytes.{bytes_of_scalars, unit_bytes, utf16_bytes}
 use Rattle.encoding_text.specs.declared.utf_16.ByteOrder.{ByteOrder}
 use Rattle.encoding_definitions.proofs.Utf16Lemmas.{first_unit, first_pair}
-use Rattle.encoding_streams.specs.Utf16Parts.{AreBytes, bytes_of_scalars, bytes_of_utf16, IsPendingUtf16, IsMalformedUtf16, IsFirstPartUtf16, StartsWithUtf16, ArePartsOfUtf16, AreFinalUtf16}
+use Rattle.encoding_streams.specs.Utf16Parts.{AreBytes, bytes_of_utf16, IsPendingUtf16, IsMalformedUtf16, IsFirstPartUtf16, StartsWithUtf16, ArePartsOfUtf16, AreFinalUtf16}
 use Rattle.encoding_streams.proofs.Utf16ByteLemmas.{unit_at, first_byte, second_byte, two_bytes, unit_of_bytes, bytes_of_unit, unit_at-bound, length-unit_bytes, character_bytes, character_some, bytes_of_scalars-append, pending_nil}
 
 -- ---- what the first part is, by the bytes

@@ -15,7 +15,8 @@ use Rattle.encoding_text.specs.declared.decoder.DecoderResult.TheVariants.{Input
 use Rattle.encoding_text.proofs.EncodingLemmas.{length_encode_utf8_le, length-encode_utf16-le}
 use Rattle.encoding_definitions.proofs.Utf16Lemmas.{length-utf8_of_part16}
 use Rattle.std.specs.Char.{IsScalar}
-use Rattle.encoding_streams.specs.Utf16Parts.{bytes_of_scalars, bytes_of_utf16, IsMalformedUtf16, IsFirstPartUtf16}
+use Rattle.encoding_text.specs.Utf16Bytes.{bytes_of_scalars}
+use Rattle.encoding_streams.specs.Utf16Parts.{bytes_of_utf16, IsMalformedUtf16, IsFirstPartUtf16}
 use Rattle.encoding_streams.specs.Utf16Decoding.{NeedsMore, DecodeUtf16Step, DecodeUtf16StepInto, SufficesReplacingUtf16, max_utf16_length_from_utf16, max_utf8_length_from_utf16}
 use Rattle.encoding_streams.proofs.Utf16ByteLemmas.{length-unit_bytes, length-utf16_bytes, no_characters_pending}
 use Rattle.encoding_streams.proofs.Utf16PartLemmas.{part_bytes}

@@ -10,12 +10,12 @@ use Rattle.std.proofs.lemmas.List.Concat.{flat_map-append}
 use borrow.Rule.Slice.PartMut.{put_mid}
 use Rattle.encoding_text.specs.Parts.{Character, IllFormed}
 use Rattle.encoding_text.specs.Prefixes.{WritesPrefix}
-use Rattle.encoding_text.specs.Utf16Bytes.{utf16_bytes}
+use Rattle.encoding_text.specs.Utf16Bytes.{bytes_of_scalars, utf16_bytes}
 use Rattle.encoding_text.specs.declared.utf_16.ByteOrder.{ByteOrder}
 use Rattle.encoding_text.specs.declared.decoder.DecoderResult.{DecoderResult}
 use Rattle.encoding_text.specs.declared.decoder.DecoderResult.TheVariants.{InputEmpty, OutputFull, Malformed}
 use Rattle.encoding_text.proofs.PrefixesLemmas.{WritesPrefix-nil, WritesPrefix-length, WritesPrefix_after, written_is}
-use Rattle.encoding_streams.specs.Utf16Parts.{bytes_of_scalars, IsPendingUtf16, IsMalformedUtf16, IsFirstPartUtf16}
+use Rattle.encoding_streams.specs.Utf16Parts.{IsPendingUtf16, IsMalformedUtf16, IsFirstPartUtf16}
 use Rattle.encoding_streams.specs.Utf16Decoding.{NeedsMore, IsUtf16DecodeResult, DecodeUtf16StepInto}
 use Rattle.encoding_streams.specs.Utf16Steps.{Advances, BeginsTooLong, WritesUnits}
 use Rattle.encoding_streams.proofs.Utf16ByteLemmas.{length-utf16_bytes, utf16_bytes-append, take-utf16_bytes, bytes_of_scalars-append, character_some, pending_nil}

@@ -12,12 +12,12 @@ use Rattle.encoding_text.specs.Surrogates.{IsValidUtf16}
 use Rattle.encoding_text.specs.Encoding.{IsPendingSurrogate}
 use Rattle.encoding_text.specs.FirstScalar.{IsFirstPart16}
 use Rattle.encoding_text.specs.Utf16.{AreCodeUnits, Unpaired}
-use Rattle.encoding_text.specs.Utf16Bytes.{unit_bytes, utf16_bytes}
+use Rattle.encoding_text.specs.Utf16Bytes.{bytes_of_scalars, unit_bytes, utf16_bytes}
 use Rattle.encoding_text.specs.declared.utf_16.ByteOrder.{ByteOrder}
 use Rattle.encoding_text.specs.declared.decoder.DecoderResult.TheVariants.{InputEmpty, OutputFull, Malformed}
 use Rattle.encoding_text.proofs.PrefixesLemmas.{WritesPrefix-nil}
 use Rattle.encoding_text.proofs.SurrogateLemmas.{unpaired_after}
-use Rattle.encoding_streams.specs.Utf16Parts.{bytes_of_scalars, IsPendingUtf16, IsMalformedUtf16, IsFirstPartUtf16}
+use Rattle.encoding_streams.specs.Utf16Parts.{IsPendingUtf16, IsMalformedUtf16, IsFirstPartUtf16}
 use Rattle.encoding_streams.specs.Utf16Decoding.{NeedsMore, DecodeUtf16StepInto}
 use Rattle.encoding_streams.specs.Utf16Steps.{Advances, WritesUnits, BeginsUnpaired}
 use Rattle.encoding_streams.proofs.Utf16ByteLemmas.{length-unit_bytes, same_unit, length-utf16_bytes, no_character_pending, no_characters_pending, length-pending, pending_nil}

@@ -8,7 +8,8 @@ use Rattle.encoding_text.specs.Decoding.{IsReport}
 use Rattle.encoding_text.specs.declared.utf_16.ByteOrder.{ByteOrder}
 use Rattle.encoding_text.specs.declared.decoder.DecoderResult.{DecoderResult}
 use Rattle.encoding_text.specs.declared.decoder.DecoderResult.TheVariants.{InputEmpty, OutputFull, Malformed}
-use Rattle.encoding_streams.specs.Utf16Parts.{bytes_of_scalars, IsPendingUtf16, IsMalformedUtf16, IsFirstPartUtf16}
+use Rattle.encoding_text.specs.Utf16Bytes.{bytes_of_scalars}
+use Rattle.encoding_streams.specs.Utf16Parts.{IsPendingUtf16, IsMalformedUtf16, IsFirstPartUtf16}
 
 -- a decoder: its byte order, and its pending bytes
 pub record Utf16State : Type 0 where

@@ -3,7 +3,6 @@
 use Rattle.std.specs.Prelude.{◌≡◌, ◌≢◌, ℕ, ◌<◌, ◌≤◌, Bool, true, false, List, [], ◌∷◌, ◌++◌, length, ◌⊎◌, slice_index}
 use Rattle.std.specs.Char.{IsScalar}
 use Rattle.std.specs.Char.Escape.{encode_utf16}
-use Rattle.std.specs.List.{flat_map}
 use Rattle.encoding_text.specs.Parts.{Part, Character, IllFormed}
 use Rattle.encoding_text.specs.Utf16.{IsHighSurrogate, IsLowSurrogate}
 use Rattle.encoding_text.specs.Encoding.{IsPendingSurrogate}
@@ -13,10 +12,6 @@ use Rattle.encoding_text.specs.declared.utf_16.ByteOrder.{ByteOrder}
 -- each is a byte: a number of eight bits
 abbrev pub AreBytes : List ℕ → Type 0
 AreBytes bs = (k : ℕ) → slice_index bs k < 256
-
--- the bytes of characters
-abbrev pub bytes_of_scalars : ByteOrder → List ℕ → List ℕ
-bytes_of_scalars order cs = utf16_bytes order (flat_map encode_utf16 cs)
 
 -- the bytes that a part takes
 abbrev pub bytes_of_utf16 : ByteOrder → Part → List ℕ

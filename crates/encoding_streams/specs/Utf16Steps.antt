@@ -7,10 +7,10 @@ use Rattle.std.specs.List.{flat_map}
 use Rattle.encoding_text.specs.Prefixes.{WritesPrefix}
 use Rattle.encoding_text.specs.Surrogates.{IsValidUtf16}
 use Rattle.encoding_text.specs.Utf16.{IsHighSurrogate, IsLowSurrogate}
-use Rattle.encoding_text.specs.Utf16Bytes.{utf16_bytes}
+use Rattle.encoding_text.specs.Utf16Bytes.{bytes_of_scalars, utf16_bytes}
 use Rattle.encoding_text.specs.declared.utf_16.ByteOrder.{ByteOrder}
 use Rattle.encoding_text.specs.declared.decoder.DecoderResult.{DecoderResult}
-use Rattle.encoding_streams.specs.Utf16Parts.{bytes_of_scalars, IsMalformedUtf16, IsPendingUtf16}
+use Rattle.encoding_streams.specs.Utf16Parts.{IsMalformedUtf16, IsPendingUtf16}
 use Rattle.encoding_streams.specs.Utf16Decoding.{DecodeUtf16StepInto}
 use Rattle.encoding_streams.specs.declared.utf16_decoder.window.First.{First}
 use Rattle.encoding_streams.specs.declared.utf16_decoder.window.First.TheVariants.{Characters, Unpaired, Incomplete}

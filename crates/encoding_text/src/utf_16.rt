@@ -3,11 +3,10 @@
 
 ghost use Rattle.std.specs.Prelude.{◌≡◌, ℕ, ◌+◌, ◌*◌, ◌/◌, ◌++◌, ◌<◌, ◌≤◌, true, List, length, min, take, drop, encode_utf8};
 ghost use Rattle.std.specs.Char.{IsScalar};
-ghost use Rattle.std.specs.Char.Escape.{encode_utf16};
 ghost use Rattle.std.specs.List.{flat_map};
 ghost use Rattle.std.specs.Str.{IsAscii, all_scalars};
 ghost use Rattle.encoding_definitions.specs.Prefixes.{WritesPrefix};
-ghost use Rattle.encoding_text.specs.Utf16Bytes.{unit_bytes, utf16_bytes};
+ghost use Rattle.encoding_text.specs.Utf16Bytes.{bytes_of_scalars, unit_bytes, utf16_bytes};
 
 use encoding_kernels::utf16::bytes::copy_ascii_units;
 use encoding_kernels::utf16::source::UnitBytes;
@@ -87,7 +86,7 @@ pub fn convert_utf16_bytes_to_utf8_up_to_surrogate(
     ensures read { result.0 ≤ length src.now }
     ensures converted { (scalars : List ℕ) × (all_scalars scalars ≡ true)
         × (result.0 ≡ 2 * length scalars)
-        × (utf16_bytes order (flat_map encode_utf16 scalars) ≡ take result.0 src.now)
+        × (bytes_of_scalars order scalars ≡ take result.0 src.now)
         × WritesPrefix dst.old dst.new result.1 (flat_map encode_utf8 scalars) }
     ensures stops { (scalar : ℕ) (rest : List ℕ) → IsScalar scalar → scalar < 0x10000
         → drop result.0 src.now ≡ unit_bytes order scalar ++ rest

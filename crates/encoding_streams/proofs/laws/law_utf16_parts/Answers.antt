@@ -1,7 +1,8 @@
 use Rattle.std.proofs.Common.{◌∙◌, sym, subst, true, map, [], ◌++◌}
 use Rattle.std.proofs.lemmas.List.{append-nil}
 use Rattle.encoding_text.specs.Parts.{Character}
-use Rattle.encoding_streams.specs.Utf16Parts.{StartsWithUtf16, bytes_of_scalars}
+use Rattle.encoding_text.specs.Utf16Bytes.{bytes_of_scalars}
+use Rattle.encoding_streams.specs.Utf16Parts.{StartsWithUtf16}
 use Rattle.encoding_streams.proofs.Utf16LossyLemmas.{bytes_lossy}
 use Rattle.encoding_streams.proofs.Utf16PartLemmas.{has_parts, same_parts, starts_bytes, starts_characters, starts_stay, parts_split, has_final}
 use Rattle.encoding_streams.proofs.laws.law_utf16_parts.Goals as goal
