@@ -66,21 +66,6 @@ fn extend_by_pairs(src: &[u8], from: usize, pairs: usize) -> usize
     at
 }
 
-/// Returns the length, at most 32, of a prefix whose bytes may each follow those before it.
-#[inline(always)]
-fn clean_of_first_32(src: &[u8]) -> usize
-    requires { 16 ≤ length src.now }
-    ensures within { result ≤ length src.now }
-    ensures follow { ValidUpTo src.now result }
-{
-    let clean = zeros(faults::<0>(src, 0));
-    if clean < 16 || src.len() < 19 {
-        return clean;
-    }
-    let last = (src.len() - 16).min(16);
-    last + zeros(faults::<3>(src, last))
-}
-
 /// Returns `at`, or the start of the character that is cut there.
 #[tactic(auto, using(crate::proofs::Utf8ValidationLemmas::IsUtf8_before, crate::proofs::Utf8ValidationLemmas::IsUtf8_closed, crate::proofs::Utf8ValidationLemmas::IsClosedAt_tests))]
 fn back(src: &[u8], at: usize) -> usize
@@ -205,7 +190,14 @@ pub fn well_formed_short(src: &[u8]) -> usize
     let clean = if src.len() >= 35 {
         clean_of_64::<0>(src, 0)
     } else if src.len() >= STRIDE {
-        clean_of_first_32(src)
+        let first = zeros(faults::<0>(src, 0));
+        if first < STRIDE || src.len() < STRIDE + 3 {
+            first
+        } else {
+            // the second vector needs three bytes before it
+            let last = (src.len() - STRIDE).min(STRIDE);
+            last + zeros(faults::<3>(src, last))
+        }
     } else {
         // one vector, which zeros fill
         let block = with_zeros(src).to_array();
