@@ -1,5 +1,5 @@
 -- The look-ups of right-to-left characters in UTF-8, lane by lane: a lane that is zero begins none.
-use Rattle.std.proofs.Common.{◌≡◌, ℕ, ◌+◌, ◌-◌, ◌/◌, ◌%◌, ◌<◌, ◌≤◌, inl, inr, true, sym, map, List, ◌++◌, length, get_or, slice_index, encode_utf8, bit_and, refl, arith, ◌∙◌, ap, subst, eqb}
+use Rattle.std.proofs.Common.{◌≡◌, ℕ, ◌+◌, ◌-◌, ◌/◌, ◌%◌, ◌<◌, ◌≤◌, inl, inr, true, sym, map, List, ◌++◌, length, get_or, slice_index, encode_utf8, bit_and, refl, arith, ◌∙◌, ap, subst, eqb, w8, Fits}
 use Rattle.std.proofs.lemmas.Bool.{cases_lt, eqb-true}
 use Rattle.std.proofs.lemmas.Nat.Bits.{bit_at-zero, bit_at_and}
 use Rattle.std.proofs.str.Laws.{two, three, four}
@@ -9,11 +9,11 @@ use lib.Lanes.{zip2, chunk}
 use Rattle.encoding_definitions.specs.Bidi.{IsRightToLeft}
 use Rattle.encoding_definitions.proofs.BidiTextLemmas.{right_to_left_from}
 use Rattle.encoding_kernels.specs.declared.bidi.bytes.TheConstants.{FIRST_HIGH, FIRST_LOW, SECOND_HIGH, SECOND_LOW, THIRD_HIGH, THIRD_LOW}
-use Rattle.encoding_kernels.specs.RightToLeft.{RtlAt, BeginNoRtl, NoRtlIn}
+use Rattle.encoding_kernels.specs.RightToLeft.{RtlAt, NoRtlIn}
 use Rattle.encoding_kernels.specs.Scans.{HasLanes}
 use Rattle.encoding_kernels.proofs.BidiLemmas.{by_first_three}
 use Rattle.encoding_kernels.proofs.VectorLemmas.{same_below, HasLanes-zip2, HasLanes_load}
-use Rattle.encoding_kernels.proofs.Utf8LookupLemmas.{IsLanes, byte, by_nibbles, both_looked_up}
+use Rattle.encoding_kernels.proofs.Utf8LookupLemmas.{IsLanes, by_nibbles, both_looked_up, lanes_fit}
 
 -- the groups that a first, second or third byte leaves
 abbrev pub by_first : ℕ → ℕ
@@ -109,11 +109,6 @@ first_leave c rest r = elim (cases_lt c 2048) [
   ]
 ]
 
-begin_none : (a b d : ℕ) → b < 256 → d < 256 → groups a b d ≡ 0 → BeginNoRtl a b d
-begin_none a b d l m e = record {
-  each = λ bs at x y z s. by_first_three (λ p q r. q < 256 → r < 256 → groups p q r ≡ 0 → ⊥) first_leave bs at s (rw y l) (rw z m) (rw (x, y, z) e);
-}
-
 -- ---- lanes
 abbrev pub lanes : List ℕ → List ℕ → List ℕ → List ℕ
 lanes a b d = zip2 bit_and (zip2 bit_and (by_nibbles 32 FIRST_HIGH FIRST_LOW a) (by_nibbles 32 SECOND_HIGH SECOND_LOW b)) (by_nibbles 32 THIRD_HIGH THIRD_LOW d)
@@ -126,22 +121,28 @@ module _ (a b d : List ℕ) (A : IsLanes 32 a) (B : IsLanes 32 b) (D : IsLanes 3
       let third = both_looked_up 32 (inr refl) d D THIRD_HIGH THIRD_LOW refl refl refl refl in
       HasLanes-zip2 bit_and (HasLanes-zip2 bit_and first second) third
 
-  pub lanes_begin_none : (i : ℕ) → i < 32 → get_or (lanes a b d) i 0 ≡ 0 → BeginNoRtl (get_or a i 0) (get_or b i 0) (get_or d i 0)
-  lanes_begin_none i l e = begin_none _ _ _ (byte 32 b B i l) (byte 32 d D i l) (sym (lanes_are.each i l) ∙ e)
-
-  pub lanes_long : length (lanes a b d) ≡ 32
-  lanes_long = lanes_are.long
-
 -- ---- 32 indices
-pub none_at : (bs : List ℕ) (at i : ℕ) → at + 34 ≤ length bs → i < 32
-    → BeginNoRtl (get_or (chunk at 32 bs) i 0) (get_or (chunk (at + 1) 32 bs) i 0) (get_or (chunk (at + 2) 32 bs) i 0) → RtlAt bs (at + i) → ⊥
-none_at bs at i room l none =
-    let first = (HasLanes_load at 32 bs (omega arith)).each i l in
-    let second = (HasLanes_load (at + 1) 32 bs (omega arith)).each i l in
-    let third = (HasLanes_load (at + 2) 32 bs (omega arith)).each i l in
-    let one : at + i + 1 ≡ at + 1 + i = omega arith in
-    let both : at + i + 2 ≡ at + 2 + i = omega arith in
-    none.each bs (at + i) (sym first) (ap (λ k. get_or bs k 0) one ∙ sym second) (ap (λ k. get_or bs k 0) both ∙ sym third)
+module _ (bs : List ℕ) (fits : (k : ℕ) → Fits w8 (get_or bs k 0)) where
+  pub loaded : (at : ℕ) → at + 32 ≤ length bs → IsLanes 32 (chunk at 32 bs)
+  loaded at room = lanes_fit 32 (HasLanes_load at 32 bs room) (λ k. fits (at + k))
+
+  module _ (at : ℕ) (room : at + 34 ≤ length bs) where
+    looked_up : HasLanes 32 (lanes (chunk at 32 bs) (chunk (at + 1) 32 bs) (chunk (at + 2) 32 bs))
+        (λ k. groups (get_or (chunk at 32 bs) k 0) (get_or (chunk (at + 1) 32 bs) k 0) (get_or (chunk (at + 2) 32 bs) k 0))
+    looked_up = lanes_are _ _ _ (loaded at (omega arith)) (loaded (at + 1) (omega arith)) (loaded (at + 2) (omega arith))
+
+    pub lanes_long : length (lanes (chunk at 32 bs) (chunk (at + 1) 32 bs) (chunk (at + 2) 32 bs)) ≡ 32
+    lanes_long = looked_up.long
+
+    pub none_at : (i : ℕ) → i < 32 → get_or (lanes (chunk at 32 bs) (chunk (at + 1) 32 bs) (chunk (at + 2) 32 bs)) i 0 ≡ 0 → RtlAt bs (at + i) → ⊥
+    none_at i l e s =
+        let one : at + 1 + i ≡ at + i + 1 = omega arith in
+        let two : at + 2 + i ≡ at + i + 2 = omega arith in
+        let first = (HasLanes_load at 32 bs (omega arith)).each i l in
+        let second = (HasLanes_load (at + 1) 32 bs (omega arith)).each i l ∙ ap (λ k. get_or bs k 0) one in
+        let third = (HasLanes_load (at + 2) 32 bs (omega arith)).each i l ∙ ap (λ k. get_or bs k 0) two in
+        by_first_three (λ p q r. q < 256 → r < 256 → groups p q r ≡ 0 → ⊥) first_leave bs (at + i) s (fits (at + i + 1)).fits (fits (at + i + 2)).fits
+        (sym (λ j. groups (first j) (second j) (third j)) ∙ sym (looked_up.each i l) ∙ e)
 
 -- ---- 64 indices
 pub none_in_64 : (bs : List ℕ) (at : ℕ) → ((i : ℕ) → i < 32 → RtlAt bs (at + i) → ⊥) → ((i : ℕ) → i < 32 → RtlAt bs (at + 32 + i) → ⊥) → NoRtlIn bs at (at + 64)

@@ -122,10 +122,10 @@ none_before bs n low = record { each = λ k from to s. none_from_zero bs k (λ d
 pub none_joined : (bs : List ℕ) (a b d : ℕ) → NoRtlIn bs a b → NoRtlIn bs b d → NoRtlIn bs a d
 none_joined bs a b d p q = record { each = λ k from to s. elim (cases_lt k b) [ inl l ↦ p.each k from l s | inr l ↦ q.each k l to s ] }
 
--- low bytes after two ranges
-pub none_and_low : (bs : List ℕ) (a b d e : ℕ) → NoRtlIn bs a b → NoRtlIn bs b d
-    → PassBetween (λ k. may_start_rtl (slice_index bs k) (rtl_mark_lead (slice_index bs (k + 2))) ≡ false) d e → NoRtlIn bs a e
-none_and_low bs a b d e p q low = none_joined bs a d e (none_joined bs a b d p q) (none_low bs d e low)
+-- low bytes after a range
+pub none_and_low : (bs : List ℕ) (a b d : ℕ) → NoRtlIn bs a b
+    → PassBetween (λ k. may_start_rtl (slice_index bs k) (rtl_mark_lead (slice_index bs (k + 2))) ≡ false) b d → NoRtlIn bs a d
+none_and_low bs a b d p low = none_joined bs a b d p (none_low bs b d low)
 
 some_bytes : (c : ℕ) → IsRightToLeft c → 2 ≤ length (encode_utf8 c)
 some_bytes c r = grind (arith, nat_tests, length-encode c, right_to_left_from c r)

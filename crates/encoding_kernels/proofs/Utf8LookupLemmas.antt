@@ -236,7 +236,7 @@ module _ (n : ℕ) (w : IsWidth n) (x y a b : List ℕ) (X : IsLanes n x) (Y : I
   lanes_long = lanes_are.long
 
 -- ---- the same for a text
-lanes_fit : (n : ℕ) {v : List ℕ} {f : ℕ → ℕ} → HasLanes n v f → ((k : ℕ) → Fits w8 (f k)) → IsLanes n v
+pub lanes_fit : (n : ℕ) {v : List ℕ} {f : ℕ → ℕ} → HasLanes n v f → ((k : ℕ) → Fits w8 (f k)) → IsLanes n v
 lanes_fit n {v} h fits = (h.long, Each1-from_get_or (Fits w8) v 0 (λ i l. subst (Fits w8) (sym (h.each i (omega (arith, h.long)))) (fits i)))
 
 zero_fits : (xs : List ℕ) → ((i : ℕ) → Fits w8 (get_or xs i 0)) → (i : ℕ) → Fits w8 (get_or (0 ∷ xs) i 0)

@@ -39,10 +39,6 @@ pub record RtlAt (bs : List ℕ) (at : ℕ) : Type 0 where
 pub record NoRtlIn (bs : List ℕ) (from to : ℕ) : Type 0 where
   pub each : (k : ℕ) → from ≤ k → k < to → RtlAt bs k → ⊥
 
--- where bytes have these three at an index, no right-to-left character is at it
-pub record BeginNoRtl (a b d : ℕ) : Type 0 where
-  pub each : (bs : List ℕ) (at : ℕ) → slice_index bs at ≡ a → slice_index bs (at + 1) ≡ b → slice_index bs (at + 2) ≡ d → RtlAt bs at → ⊥
-
 -- none of the code units in `from..to` is right-to-left
 pub record NoneRightToLeft (us : List ℕ) (from to : ℕ) : Type 0 where
   pub each : (k : ℕ) → from ≤ k → k < to → IsRightToLeftUnit (slice_index us k) → ⊥

@@ -3,7 +3,7 @@
 //! all six leave it. Fewer bytes than a block are tested by ranges.
 
 ghost use Rattle.std.specs.Prelude.{◌≡◌, ℕ, false, ◌+◌, ◌-◌, ◌<◌, ◌≤◌, length, slice_index, IsTrue};
-ghost use Rattle.encoding_kernels.specs.RightToLeft.{RtlAt, BeginNoRtl, NoRtlIn, rtl_second_end, rtl_mark_lead, may_start_rtl, HasNoRtlAt};
+ghost use Rattle.encoding_kernels.specs.RightToLeft.{RtlAt, NoRtlIn, rtl_second_end, rtl_mark_lead, may_start_rtl, HasNoRtlAt};
 ghost use Rattle.encoding_kernels.specs.Scans.{HasLanes};
 
 use crate::simd::lookup::twice;
@@ -170,14 +170,17 @@ const THIRD_LOW: [u8; 32] = twice![
     ANY_THIRD_LOW | MARK,
 ];
 
-/// Returns the groups of 32 indices by the bytes at each and the two that follow. A lane is zero only if no right-to-left
-/// character begins with the three bytes.
+/// Returns the groups of the 32 indices from `at` on, by the bytes at each and the two that follow. A lane is zero only if no
+/// right-to-left character is at its index.
 #[inline(always)]
-fn groups_of_32(first: u8x32, second: u8x32, third: u8x32) -> u8x32
+fn groups_of_32(bytes: &[u8], at: usize) -> u8x32
+    requires { at + 34 ≤ length bytes.now }
     ensures length { length result ≡ 32 }
-    ensures lanes { (i : ℕ) → i < 32 → slice_index result i ≡ 0
-        → BeginNoRtl (slice_index first i) (slice_index second i) (slice_index third i) }
+    ensures lanes { (i : ℕ) → i < 32 → slice_index result i ≡ 0 → RtlAt bytes.now (at + i) → ⊥ }
 {
+    let first = u8x32::from_slice(&bytes[at..]);
+    let second = u8x32::from_slice(&bytes[at + 1..]);
+    let third = u8x32::from_slice(&bytes[at + 2..]);
     let (four, nibble) = (u8x32::splat(4), u8x32::splat(15));
     let by_first = u8x32::from_slice(&FIRST_HIGH).swizzle_dyn_within::<16>(first >> four)
         & u8x32::from_slice(&FIRST_LOW).swizzle_dyn_within::<16>(first & nibble);
@@ -188,20 +191,6 @@ fn groups_of_32(first: u8x32, second: u8x32, third: u8x32) -> u8x32
     by_first & by_second & by_third
 }
 
-/// Returns the groups of the 32 indices from `at` on. A lane is zero only if no right-to-left character is at its index.
-#[inline(always)]
-fn groups_at(bytes: &[u8], at: usize) -> u8x32
-    requires { at + 34 ≤ length bytes.now }
-    ensures length { length result ≡ 32 }
-    ensures lanes { (i : ℕ) → i < 32 → slice_index result i ≡ 0 → RtlAt bytes.now (at + i) → ⊥ }
-{
-    groups_of_32(
-        u8x32::from_slice(&bytes[at..]),
-        u8x32::from_slice(&bytes[at + 1..]),
-        u8x32::from_slice(&bytes[at + 2..]),
-    )
-}
-
 /// Returns whether no right-to-left character is at the 64 indices from `at` on. May return false if there is one of U+0580
 /// to U+058F, U+FB00 to U+FB1C, U+FE40 to U+FE6F, or U+FEFF, or bytes that aren't well-formed.
 #[inline(always)]
@@ -209,8 +198,8 @@ fn are_64_clear(bytes: &[u8], at: usize) -> bool
     requires { at + 66 ≤ length bytes.now }
     ensures { IsTrue result → NoRtlIn bytes.now at (at + 64) }
 {
-    let first = groups_at(bytes, at);
-    let second = groups_at(bytes, at + 32);
+    let first = groups_of_32(bytes, at);
+    let second = groups_of_32(bytes, at + 32);
     is_zero(first | second)
 }
 
@@ -299,21 +288,6 @@ impl<'a, const N: usize> AllPass<N, N> for ClearBytes<'a> {
     }
 }
 
-/// Skips blocks of bytes from `from` on, no farther than `end`, in which no right-to-left character begins, and returns the
-/// index that it reaches. At least two bytes follow `end`.
-#[inline(always)]
-fn skip_clear_blocks(bytes: &[u8], from: usize, end: usize) -> usize
-    requires { (from ≤ end) × (end + 2 ≤ length bytes.now) }
-    ensures within { (from ≤ result) × (result ≤ end) }
-    ensures no_rtl { NoRtlIn bytes.now from result }
-{
-    let mut at = from;
-    while end - at >= BLOCK && are_64_clear(bytes, at) {
-        at += BLOCK;
-    }
-    at
-}
-
 /// Skips blocks of bytes from `from` on in which no right-to-left character begins, and returns the index that it reaches.
 ///
 /// Where low bytes are rare, they are tested for less often.
@@ -327,7 +301,9 @@ pub fn skip_clear(bytes: &[u8], from: usize) -> usize
     let mut blocks = 1;
     while bytes.len() - at >= BLOCK + 2 {
         let end = at + BLOCK * blocks.min((bytes.len() - 2 - at) / BLOCK);
-        at = skip_clear_blocks(bytes, at, end);
+        while end - at >= BLOCK && are_64_clear(bytes, at) {
+            at += BLOCK;
+        }
         if at < end {
             break;
         }

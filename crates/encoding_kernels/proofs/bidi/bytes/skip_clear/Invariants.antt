@@ -12,3 +12,9 @@ invariant-loop-at l = record {
 
 abbrev pub decreases-loop-at : goal.decreases-loop-at
 decreases-loop-at l = length l.bytes - l.at
+
+abbrev pub invariant-loop-at-2 : goal.invariant-loop-at-2
+invariant-loop-at-2 l = record { within : (l.initial.at ≤ l.at) × (l.at ≤ l.end); none : NoRtlIn l.bytes l.from l.at }
+
+abbrev pub decreases-loop-at-2 : goal.decreases-loop-at-2
+decreases-loop-at-2 l = l.end - l.at

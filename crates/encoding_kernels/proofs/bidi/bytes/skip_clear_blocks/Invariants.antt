@@ -1,9 +1,0 @@
-use Rattle.std.proofs.Common.{◌-◌, ◌≤◌}
-use Rattle.encoding_kernels.specs.RightToLeft.{NoRtlIn}
-use Rattle.encoding_kernels.proofs.bidi.bytes.skip_clear_blocks.Given as goal
-
-abbrev pub invariant-loop-at : goal.invariant-loop-at
-invariant-loop-at l = record { within : (l.from ≤ l.at) × (l.at ≤ l.end); none : NoRtlIn l.bytes l.from l.at }
-
-abbrev pub decreases-loop-at : goal.decreases-loop-at
-decreases-loop-at l = l.end - l.at
