@@ -87,26 +87,6 @@ fn write_triples(src: &[u8], count: usize, dst: &mut [u16])
     units.copy_to_slice(dst);
 }
 
-/// Returns how many of the first eight characters have three bytes, up to the first that hasn't.
-#[inline(always)]
-fn leading_triples(src: &[u8]) -> usize
-    requires { 24 ≤ length src.now }
-    ensures { (result ≤ 8) × ((k : ℕ) → k < result → BeginsThree (slice_index src.now (3 * k))) }
-{
-    let first = u8x16::from_slice(src) & u8x16::from_array(LEAD_BITS);
-    let later = u8x16::from_slice(&src[8..]) & u8x16::from_array(LATER_BITS);
-    let others = first.simd_ne(u8x16::from_array(LEAD_VALUES)).to_bitmask();
-    let others_later = later.simd_ne(u8x16::from_array(LATER_VALUES)).to_bitmask();
-    let before = run_before::<16>(others);
-    let before_later = run_before::<16>(others_later);
-    let end = if before < 16 {
-        before
-    } else {
-        8 + before_later
-    };
-    end / 3
-}
-
 /// Returns whether none of the first 64 bytes begins a character of four bytes, and whether the last 48 of them are ASCII.
 #[inline(always)]
 fn kinds_of_group(src: &[u8]) -> (bool, bool)
@@ -161,7 +141,19 @@ fn write_with_pairs(src: &[u8], dst: &mut [u16]) -> (usize, usize)
     ensures written { WritesUtf16 src.now dst.old dst.new result.0 result.1 (units_in src.now) }
 {
     if src[0] & 0xF0 == 0xE0 && are_bytes_below::<HALF_BLOCK>(src, HALF_BLOCK, FOUR_BYTES) {
-        let count = leading_triples(src);
+        // how many of the first eight characters have three bytes, up to the first that hasn't
+        let first = u8x16::from_slice(src) & u8x16::from_array(LEAD_BITS);
+        let later = u8x16::from_slice(&src[8..]) & u8x16::from_array(LATER_BITS);
+        let others = first.simd_ne(u8x16::from_array(LEAD_VALUES)).to_bitmask();
+        let others_later = later.simd_ne(u8x16::from_array(LATER_VALUES)).to_bitmask();
+        let before = run_before::<16>(others);
+        let before_later = run_before::<16>(others_later);
+        let end = if before < 16 {
+            before
+        } else {
+            8 + before_later
+        };
+        let count = end / 3;
         let read = 3 * count;
         if !are_bytes_below::<STRIDE>(src, read, FOUR_BYTES) {
             write_triples(src, count, dst);
