@@ -2,6 +2,6 @@
 
 pub mod count;
 pub mod length;
-pub(crate) mod lookups;
+mod lookups;
 pub mod repaired;
 pub mod validate;

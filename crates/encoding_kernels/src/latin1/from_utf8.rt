@@ -6,7 +6,7 @@ ghost use Rattle.encoding_kernels.specs.KeptBytes.{EndsPair, all_latin1_ended, b
 
 use crate::simd::compress::keep_pairs;
 use crate::simd::width::STRIDE;
-use crate::utf8::lookups::lanes_before;
+use crate::utf8::validate::lanes_before;
 use std::simd::prelude::*;
 
 /// Returns for each pair of bytes the Latin1 bytes that its bytes end, given the byte before each byte. If they end one,

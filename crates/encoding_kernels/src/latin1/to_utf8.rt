@@ -10,7 +10,7 @@ ghost use Rattle.encoding_kernels.specs.Utf8Output.{Spills};
 use crate::simd::compress::{keep_pairs, store_two, write_both};
 use crate::simd::copy::join_bytes;
 use crate::simd::width::{HALF_STRIDE, STRIDE};
-use crate::utf8::lookups::first_and_last_eight;
+use crate::utf8::validate::first_and_last_eight;
 use std::simd::prelude::*;
 
 /// Returns two bytes for each of sixteen bytes of Latin1, by eight: its UTF-8. A byte that is ASCII has an arbitrary

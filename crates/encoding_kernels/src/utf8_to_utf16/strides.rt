@@ -19,7 +19,7 @@ ghost use Rattle.std.specs.Simd.Lanes.{mask_l};
 use crate::scalar::{decode_utf8_scalar, sequence_length, write_utf16};
 use crate::simd::copy::join_bytes;
 use crate::simd::width::{HALF_STRIDE, STRIDE};
-use crate::utf8::lookups::{bytes_before, with_zeros};
+use crate::utf8::validate::{bytes_before, with_zeros};
 use std::simd::prelude::*;
 
 /// The least byte that begins four.

@@ -1,6 +1,6 @@
 use Rattle.std.proofs.Common.{◌∷◌, []}
 use Rattle.encoding_kernels.proofs.CodeUnitLemmas.{HasLanes-after}
-use Rattle.encoding_kernels.proofs.utf8.lookups.lanes_before.Goals as goal
+use Rattle.encoding_kernels.proofs.utf8.validate.lanes_before.Goals as goal
 
 pub returns-clause-three : goal.returns-clause-three
 returns-clause-three c = HasLanes-after (0 ∷ 0 ∷ 0 ∷ []) c.args.block 13

@@ -1,6 +1,6 @@
 use Rattle.std.proofs.Common.{length}
 use Rattle.encoding_kernels.proofs.CopyLemmas.{places_ok, with_zeros_is}
-use Rattle.encoding_kernels.proofs.utf8.lookups.with_zeros.Goals as goal
+use Rattle.encoding_kernels.proofs.utf8.validate.with_zeros.Goals as goal
 
 pub swizzle-bytes : goal.swizzle-bytes
 swizzle-bytes c = places_ok (length c.args.src.now)

@@ -1,6 +1,6 @@
 use Rattle.std.proofs.Common.{inl, refl}
 use Rattle.encoding_kernels.proofs.Utf8LookupLemmas.{are_bytes, are_previous, high_places, low_places, text_lanes_follow, text_lanes_long}
-use Rattle.encoding_kernels.proofs.utf8.lookups.faults.Goals as goal
+use Rattle.encoding_kernels.proofs.utf8.validate.faults.Goals as goal
 
 pub swizzle : goal.swizzle
 swizzle g c =

@@ -1,6 +1,6 @@
 use Rattle.std.proofs.Common.{◌∷◌, [], arith, take}
 use Rattle.encoding_kernels.proofs.CodeUnitLemmas.{HasLanes-after, loaded_before, zeros_before}
-use Rattle.encoding_kernels.proofs.utf8.lookups.bytes_before_32.Goals as goal
+use Rattle.encoding_kernels.proofs.utf8.validate.bytes_before_32.Goals as goal
 
 pub returns-then-this-lt3-clause-three : goal.returns-then-this-lt3-clause-three
 returns-then-this-lt3-clause-three g c =

@@ -1,6 +1,6 @@
 use Rattle.std.proofs.Common.{◌∷◌, [], arith}
 use Rattle.encoding_kernels.proofs.CodeUnitLemmas.{loaded_before, zeros_before}
-use Rattle.encoding_kernels.proofs.utf8.lookups.bytes_before.Goals as goal
+use Rattle.encoding_kernels.proofs.utf8.validate.bytes_before.Goals as goal
 
 pub returns-then-this-lt3-clause-three : goal.returns-then-this-lt3-clause-three
 returns-then-this-lt3-clause-three g c = zeros_before 16 c.args.src.now _ (0 ∷ 0 ∷ 0 ∷ []) c.args.at (omega arith) (omega arith) c.lanes_before.ensures.three
