@@ -8,7 +8,7 @@ ghost use Rattle.std.specs.Char.Escape.{encode_utf16};
 ghost use Rattle.std.specs.Str.{IsUtf8, chars};
 ghost use Rattle.encoding_definitions.specs.Prefixes.{WritesPrefix};
 ghost use Rattle.encoding_kernels.specs.EndingUnits.{WritesUtf16, units_in, BeginsThree};
-ghost use Rattle.encoding_kernels.specs.Scans.{BelowBetween, BelowUpTo};
+ghost use Rattle.encoding_kernels.specs.Scans.{BelowUpTo};
 
 use crate::scalar::sequence_length;
 use crate::simd::scan::{BytesBelow, are_bytes_below, pass_short, run_before};
@@ -87,24 +87,6 @@ fn write_triples(src: &[u8], count: usize, dst: &mut [u16])
     units.copy_to_slice(dst);
 }
 
-/// Returns whether none of the first 64 bytes begins a character of four bytes, and whether the last 48 of them are ASCII.
-#[inline(always)]
-fn kinds_of_group(src: &[u8]) -> (bool, bool)
-    requires { 64 ≤ length src.now }
-    ensures short { IsTrue result.0 → BelowUpTo 0xF0 src.now 64 }
-    ensures ascii { IsTrue result.1 → BelowBetween 0x80 src.now 16 64 }
-{
-    let first = u8x16::from_slice(src);
-    let second = u8x16::from_slice(&src[STRIDE..]);
-    let third = u8x16::from_slice(&src[2 * STRIDE..]);
-    let fourth = u8x16::from_slice(&src[3 * STRIDE..]);
-    let rest = second.simd_max(third).simd_max(fourth);
-    (
-        is_below(first.simd_max(rest), FOUR_BYTES),
-        is_below(rest, ASCII_END),
-    )
-}
-
 /// Writes the UTF-16 of the whole characters in the first 64 bytes, if none has more than N bytes. Returns how many bytes it read
 /// and how many code units it wrote. Units that the rest of the text overwrites may have changed too.
 #[inline(always)]
@@ -180,30 +162,31 @@ fn convert_groups(src: &[u8], dst: &mut [u16]) -> (usize, usize)
     let mut read = 0;
     let mut written = 0;
     while src.len() - read >= GROUP_OF_TEXT {
-        if begins_triples(&src[read..]) {
-            write_triples(&src[read..], UNITS, &mut dst[written..]);
+        let text = &src[read..];
+        if begins_triples(text) {
+            write_triples(text, UNITS, &mut dst[written..]);
             read += TRIPLES;
             written += UNITS;
             continue;
         }
-        let (is_short, before_ascii) = kinds_of_group(&src[read..]);
+        let first = u8x16::from_slice(text);
+        let second = u8x16::from_slice(&text[STRIDE..]);
+        let third = u8x16::from_slice(&text[2 * STRIDE..]);
+        let fourth = u8x16::from_slice(&text[3 * STRIDE..]);
+        let rest = second.simd_max(third).simd_max(fourth);
+        let is_short = is_below(first.simd_max(rest), FOUR_BYTES);
+        let before_ascii = is_below(rest, ASCII_END);
         if !is_short {
-            let (bytes, units) = write_with_pairs(&src[read..], &mut dst[written..]);
+            let (bytes, units) = write_with_pairs(text, &mut dst[written..]);
             read += bytes;
             written += units;
             continue;
         }
         if before_ascii {
-            written += write_stride::<3, 0, 8, STRIDE>(
-                &src[read..],
-                0,
-                0,
-                STRIDE,
-                &mut dst[written..],
-            );
+            written += write_stride::<3, 0, 8, STRIDE>(text, 0, 0, STRIDE, &mut dst[written..]);
             return (read + STRIDE, written);
         }
-        let (bytes, units) = write_group::<3>(&src[read..], &mut dst[written..]);
+        let (bytes, units) = write_group::<3>(text, &mut dst[written..]);
         read += bytes;
         written += units;
     }
