@@ -1,5 +1,6 @@
 -- What bytes begin with, by the bytes of a sequence one after another.
-use Rattle.std.proofs.Common.{◌≡◌, ℕ, ◌+◌, ◌<◌, ◌≤◌, inl, inr, Bool, true, false, List, [], ◌∷◌, ◌++◌, length, take, drop, slice_index, refl, sym, ap, ◌∙◌, arith, subst}
+use Rattle.std.proofs.Common.{◌≡◌, ℕ, ◌+◌, ◌<◌, ◌≤◌, inl, inr, Bool, true, false, Option, Some, None, List, [], ◌∷◌, ◌++◌, length, take, drop, slice_index, refl, sym, ap, ◌∙◌, arith, subst}
+use Rattle.std.specs.Option.{is_some, IfSome}
 use Rattle.std.proofs.lemmas.List.{take_more, take_all, drop_all, drop_more, length-take, get_or-take, take-append-drop}
 use Rattle.encoding_definitions.specs.Sequence.{IsSequence, IsIncomplete, IsContinuation, IsPending}
 use Rattle.encoding_definitions.specs.Parts.{BeginsWithNoCharacter}
@@ -17,6 +18,11 @@ malformed_none bs n last malformed = subst BeginsWithNoCharacter (take-append-dr
 -- so does an incomplete one that is all of the bytes
 pub incomplete_none : (bs : List ℕ) → IsIncomplete bs → BeginsWithNoCharacter bs
 incomplete_none bs o = (first_open bs o).0
+
+-- so does a sequence that the first two bytes show
+pub shown_none : {X : Type 0} (first : Option X) (bs : List ℕ) → IfSome first (λ _. BeginsWithNoCharacter bs) → is_some first ≡ true → BeginsWithNoCharacter bs
+shown_none (Some _) bs none e = none
+shown_none None bs none e = absurd (cc)
 
 -- what is promised of a malformed sequence
 pub shows_malformed : (bs : List ℕ) (n : ℕ) → n ≤ 3 → n ≤ length bs → ((last : Bool) → IsMalformed (take n bs) (drop n bs) last)

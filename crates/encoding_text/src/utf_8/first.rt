@@ -53,6 +53,7 @@ impl First {
         requires not_empty { 0 < length bytes.now }
         requires lead { 0x80 ≤ slice_index bytes.now 0 }
         ensures shown { IfSome result (λ first. IsFirst bytes.now first) }
+        ensures no_character { IfSome result (λ _. BeginsWithNoCharacter bytes.now) }
         ensures several { IfNone result (IsIncomplete (take 1 bytes.now)) }
     {
         let lead = bytes[0];
@@ -96,20 +97,6 @@ impl First {
             known += 1;
         }
         First::Character(known)
-    }
-
-    /// Returns whether the first two bytes show that no character is first. The first byte isn't ASCII.
-    #[inline(always)]
-    pub(crate) fn begins_none(bytes: &[u8]) -> bool
-        requires not_empty { 0 < length bytes.now }
-        requires lead { 0x80 ≤ slice_index bytes.now 0 }
-        ensures { IsTrue result → BeginsWithNoCharacter bytes.now }
-    {
-        match First::of_two(bytes) {
-            Some(First::Malformed(_)) => true,
-            Some(First::Incomplete) => true,
-            _ => false,
-        }
     }
 
     /// Returns what the bytes begin with, exactly.

@@ -189,7 +189,7 @@ fn convert_after_ascii(src: &[u8], dst: &mut [u16]) -> (usize, usize)
         return (ascii, ascii);
     }
     // between malformed sequences there is often only ASCII
-    if src[ascii] >= ASCII_END && First::begins_none(&src[ascii..]) {
+    if src[ascii] >= ASCII_END && First::of_two(&src[ascii..]).is_some() {
         return (ascii, ascii);
     }
     let (read, written) = convert_turns(&src[ascii..], &mut dst[ascii..]);

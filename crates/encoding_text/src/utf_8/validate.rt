@@ -28,7 +28,7 @@ fn well_formed_prefix(src: &[u8]) -> usize
         return ascii;
     }
     // malformed sequences often cluster, and a block costs more than two bytes
-    if First::begins_none(&src[ascii..]) {
+    if First::of_two(&src[ascii..]).is_some() {
         return ascii;
     }
     well_formed_blocks(src, ascii)
@@ -71,7 +71,7 @@ pub(crate) fn valid_up_to_by_vectors<const DAMAGED: bool>(src: &[u8]) -> usize
         } else {
             ascii_valid_up_to_by_two::<STRIDE>(src)
         };
-        if First::begins_none(&src[ascii..]) {
+        if First::of_two(&src[ascii..]).is_some() {
             return ascii;
         }
     }
@@ -79,7 +79,7 @@ pub(crate) fn valid_up_to_by_vectors<const DAMAGED: bool>(src: &[u8]) -> usize
     if well_formed == src.len() {
         return well_formed;
     }
-    if src[well_formed] >= ASCII_END && First::begins_none(&src[well_formed..]) {
+    if src[well_formed] >= ASCII_END && First::of_two(&src[well_formed..]).is_some() {
         return well_formed;
     }
     valid_after(src, well_formed)
@@ -94,7 +94,7 @@ fn long_valid_up_to(src: &[u8]) -> usize
 {
     let first = run_len_below::<BLOCK>(src, 0, ASCII_END);
     if first != BLOCK {
-        if First::begins_none(&src[first..]) {
+        if First::of_two(&src[first..]).is_some() {
             return first;
         }
         return valid_after(src, first);
@@ -109,7 +109,7 @@ fn long_valid_up_to(src: &[u8]) -> usize
     if ascii == src.len() {
         return ascii;
     }
-    if First::begins_none(&src[ascii..]) {
+    if First::of_two(&src[ascii..]).is_some() {
         return ascii;
     }
     valid_after(src, ascii)
