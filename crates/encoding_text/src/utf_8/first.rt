@@ -1,6 +1,6 @@
 //! What bytes begin with: ASCII, a character of several bytes, a malformed sequence, or an incomplete one. Unicode Standard,
 //! Table 3-7, and Encoding Standard, section 8.1.1.
-ghost use Rattle.std.specs.Prelude.{◌<◌, ◌≤◌, ◌↔◌, ◌⊎◌, [], ◌∷◌, length, take, slice_index, IfSome, IfNone, IsTrue};
+ghost use Rattle.std.specs.Prelude.{◌<◌, ◌≤◌, length, take, slice_index, IfSome, IfNone};
 ghost use Rattle.encoding_definitions.specs.Sequence.{IsSequence, IsIncomplete};
 ghost use Rattle.encoding_definitions.specs.Parts.{BeginsWithNoCharacter};
 
@@ -20,27 +20,6 @@ pub(crate) enum First {
     Malformed(usize),
     /// Nothing or an incomplete sequence, after which the bytes end.
     Incomplete,
-}
-
-/// Returns whether three bytes are one character, for a first byte that starts no character of one, two or four.
-#[inline(always)]
-fn is_three(lead: u8, second: u8, third: u8) -> bool
-    requires leads { ((0x80 ≤ lead) × (lead ≤ 0xC1)) ⊎ ((0xE0 ≤ lead) × (lead ≤ 0xEF)) }
-    ensures { IsTrue result ↔ IsSequence (lead ∷ second ∷ third ∷ []) }
-{
-    law_table(lead, second, third, 0);
-    (UTF8_DATA.table[second as usize] & UTF8_DATA.table[lead as usize + 0x80]) | (third >> 6) == 2
-}
-
-/// Returns whether four bytes are one character, for a first byte that starts no shorter one.
-#[inline(always)]
-fn is_four(lead: u8, second: u8, third: u8, fourth: u8) -> bool
-    requires leads { 0xF0 ≤ lead }
-    ensures { IsTrue result ↔ IsSequence (lead ∷ second ∷ third ∷ fourth ∷ []) }
-{
-    law_table(lead, second, third, fourth);
-    let common = UTF8_DATA.table[second as usize] & UTF8_DATA.table[lead as usize + 0x80];
-    u16::from(common) | u16::from(third >> 6) | (u16::from(fourth & 0xC0) << 2) == 0x202
 }
 
 impl First {
@@ -146,12 +125,19 @@ pub(crate) fn character_length(bytes: &[u8]) -> Option<usize>
         return is_continuation(bytes[1]).then_some(2);
     }
     if lead < 0xF0 {
-        if !is_three(lead, bytes[1], bytes[2]) {
+        let (second, third) = (bytes[1], bytes[2]);
+        law_table(lead, second, third, 0);
+        let common = UTF8_DATA.table[second as usize] & UTF8_DATA.table[lead as usize + 0x80];
+        // never 2 after a first byte of 0x80 to 0xC1
+        if common | (third >> 6) != 2 {
             return None;
         }
         return Some(3);
     }
-    if !is_four(lead, bytes[1], bytes[2], bytes[3]) {
+    let (second, third, fourth) = (bytes[1], bytes[2], bytes[3]);
+    law_table(lead, second, third, fourth);
+    let common = UTF8_DATA.table[second as usize] & UTF8_DATA.table[lead as usize + 0x80];
+    if u16::from(common) | u16::from(third >> 6) | (u16::from(fourth & 0xC0) << 2) != 0x202 {
         return None;
     }
     Some(4)
