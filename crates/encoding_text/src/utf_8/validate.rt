@@ -115,23 +115,8 @@ fn long_valid_up_to(src: &[u8]) -> usize
     valid_after(src, ascii)
 }
 
-/// Returns the length of the longest well-formed prefix of at most 64 bytes that aren't all ASCII. Expects malformed sequences.
-/// Inline, so that its speed doesn't depend on the addresses of two functions.
-#[inline(always)]
-fn short_valid_up_to(src: &[u8]) -> usize
-    requires length { length src.now ≤ 64 }
-    requires other { IsAscii src.now → ⊥ }
-    ensures { IsLongestPrefix IsUtf8 src.now result }
-{
-    // most texts are no shorter than a stride: one test shows that
-    if src.len() < STRIDE && src.len() < LEAST_FOR_VECTORS {
-        return valid_after(src, 0);
-    }
-    valid_up_to_by_vectors::<true>(src)
-}
-
 /// Returns the length of the longest well-formed prefix, by the length of the bytes, which aren't all ASCII if they are at most
-/// 64. Expects malformed sequences.
+/// 64. Expects malformed sequences. Inline, so that its speed doesn't depend on the addresses of two functions.
 #[inline(always)]
 pub(crate) fn valid_beyond_ascii(src: &[u8]) -> usize
     requires other { (length src.now ≤ 64) × IsAscii src.now → ⊥ }
@@ -140,7 +125,11 @@ pub(crate) fn valid_beyond_ascii(src: &[u8]) -> usize
     if src.len() > SHORT {
         return long_valid_up_to(src);
     }
-    short_valid_up_to(src)
+    // most texts are no shorter than a stride: one test shows that
+    if src.len() < STRIDE && src.len() < LEAST_FOR_VECTORS {
+        return valid_after(src, 0);
+    }
+    valid_up_to_by_vectors::<true>(src)
 }
 
 /// Returns the length in bytes of the longest prefix of `src` that is well-formed UTF-8: the index of the first byte
