@@ -6,7 +6,7 @@ ghost use Rattle.std.specs.Str.{IsAscii};
 ghost use Rattle.encoding_definitions.specs.Ascii.{IsFirstOther, prefix_length_by, IsIso2022JpAscii};
 ghost use Rattle.encoding_definitions.specs.Prefixes.{IsLongestPrefix, WritesPrefix};
 
-use encoding_kernels::simd::copy::{copy, copy_first, pack, pack_first, unpack, unpack_first};
+use encoding_kernels::simd::copy::{pack, pack_first};
 use encoding_kernels::simd::scan::{are_256_below, are_bytes_below, run_len_below};
 use encoding_kernels::simd::units::{are_units_below, units_run_len_below};
 use encoding_kernels::simd::width::{
@@ -15,6 +15,8 @@ use encoding_kernels::simd::width::{
 use std::simd::prelude::*;
 
 pub(crate) mod prefixes;
+
+pub use prefixes::{ascii_to_ascii, ascii_to_basic_latin};
 
 /// The bits that no ASCII byte has: each of the eight bytes is 0x80.
 pub const ASCII_MASK: usize = 0x8080_8080_8080_8080;
@@ -149,96 +151,6 @@ pub fn iso_2022_jp_ascii_valid_up_to(bytes: &[u8]) -> usize
         }
     }
     bytes.len()
-}
-
-/// Copies the longest ASCII prefix, up to the shorter of the two lengths. Returns the first byte within that length
-/// that isn't ASCII and its index, or `None`.
-#[inline(always)]
-pub fn ascii_to_ascii(src: &[u8], dst: &mut [u8]) -> Option<(u8, usize)>
-    ensures found { IsFirstOther (take (length dst.old) src.now) result }
-    ensures copied { let n = prefix_length_by (take (length dst.old) src.now) result in
-        WritesPrefix dst.old dst.new n (take n src.now) }
-{
-    let fitting = &src[..src.len().min(dst.len())];
-    let (strides, _) = fitting.as_chunks::<STRIDE>();
-    if let Some(first) = strides.first() {
-        let run = run_len_below::<STRIDE>(first, 0, ASCII_END);
-        if run < STRIDE {
-            copy_first(first, dst, 0, run);
-            return Some((fitting[run], run));
-        }
-    }
-    let (fours, _) = strides.as_chunks::<FOUR>();
-    let mut at = 0;
-    for four in fours {
-        let block = four.as_flattened();
-        if !are_bytes_below::<BLOCK>(block, 0, ASCII_END) {
-            break;
-        }
-        copy::<BLOCK>(block, 0, dst, at);
-        at += BLOCK;
-    }
-    for i in at / STRIDE..strides.len() {
-        let run = run_len_below::<STRIDE>(&strides[i], 0, ASCII_END);
-        if run < STRIDE {
-            copy_first(&strides[i], dst, at, run);
-            return Some((fitting[at + run], at + run));
-        }
-        copy::<STRIDE>(&strides[i], 0, dst, at);
-        at += STRIDE;
-    }
-    for i in at..fitting.len() {
-        if fitting[i] >= ASCII_END {
-            return Some((fitting[i], i));
-        }
-        dst[i] = fitting[i];
-    }
-    None
-}
-
-/// Copies the longest ASCII prefix, each byte as a UTF-16 code unit, up to the shorter of the two lengths. Returns the
-/// first byte within that length that isn't ASCII and its index, or `None`.
-#[inline(always)]
-pub fn ascii_to_basic_latin(src: &[u8], dst: &mut [u16]) -> Option<(u8, usize)>
-    ensures found { IsFirstOther (take (length dst.old) src.now) result }
-    ensures copied { let n = prefix_length_by (take (length dst.old) src.now) result in
-        WritesPrefix dst.old dst.new n (take n src.now) }
-{
-    let fitting = &src[..src.len().min(dst.len())];
-    let (strides, _) = fitting.as_chunks::<STRIDE>();
-    if let Some(first) = strides.first() {
-        let run = run_len_below::<STRIDE>(first, 0, ASCII_END);
-        if run < STRIDE {
-            unpack_first(first, dst, 0, run);
-            return Some((fitting[run], run));
-        }
-    }
-    let (fours, _) = strides.as_chunks::<FOUR>();
-    let mut at = 0;
-    for four in fours {
-        let block = four.as_flattened();
-        if !are_bytes_below::<BLOCK>(block, 0, ASCII_END) {
-            break;
-        }
-        unpack::<BLOCK>(block, 0, dst, at);
-        at += BLOCK;
-    }
-    for i in at / STRIDE..strides.len() {
-        let run = run_len_below::<STRIDE>(&strides[i], 0, ASCII_END);
-        if run < STRIDE {
-            unpack_first(&strides[i], dst, at, run);
-            return Some((fitting[at + run], at + run));
-        }
-        unpack::<STRIDE>(&strides[i], 0, dst, at);
-        at += STRIDE;
-    }
-    for i in at..fitting.len() {
-        if fitting[i] >= ASCII_END {
-            return Some((fitting[i], i));
-        }
-        dst[i] = u16::from(fitting[i]);
-    }
-    None
 }
 
 /// Copies the longest ASCII prefix of UTF-16 code units, each as a byte, up to the shorter of the two lengths. Returns

@@ -1,13 +1,13 @@
-//! ASCII prefixes as conversions and validation begin with them. The functions of `ascii` find and copy them by whole
-//! strides. Before these, two vectors test a short text, and after them the last vector overlaps the one before.
+//! ASCII prefixes as conversions and validation begin with them. Whole strides are most of a long one. Before these, two
+//! vectors test a short text, and after them the last vector overlaps the one before.
 
 ghost use Rattle.std.specs.Prelude.{◌≡◌, ◌+◌, ◌*◌, ◌<◌, ◌≤◌, ◌↔◌, ◌⊎◌, IsTrue, take, length};
 ghost use Rattle.std.specs.Str.{IsAscii, IsUtf8};
+ghost use Rattle.encoding_definitions.specs.Ascii.{IsFirstOther, prefix_length_by};
 ghost use Rattle.encoding_definitions.specs.Prefixes.{IsLongestPrefix, WritesPrefix};
 ghost use Rattle.encoding_kernels.specs.EndingUnits.{WritesUtf16, units_in};
 ghost use Rattle.encoding_kernels.specs.Scans.{AllBelow, BelowUpTo, IsRunBelow};
 
-use super::{ascii_to_ascii, ascii_to_basic_latin};
 use encoding_kernels::lengths::{BLOCK_OF_TEXT, STRIDE_OF_TEXT};
 use encoding_kernels::simd::copy::{
     copy, copy_first, copy_run_of_block, unpack, unpack_block, unpack_first, write_short,
@@ -15,7 +15,7 @@ use encoding_kernels::simd::copy::{
 use encoding_kernels::simd::scan::{
     BytesBelow, are_bytes_below, pass_short, prefix_after_stride, prefix_len_below, run_len_below,
 };
-use encoding_kernels::simd::width::{ASCII_END, BLOCK, FOUR_BLOCKS, STRIDE, TWO_BLOCKS};
+use encoding_kernels::simd::width::{ASCII_END, BLOCK, FOUR, FOUR_BLOCKS, STRIDE, TWO_BLOCKS};
 
 /// Returns whether at most 128 bytes are ASCII.
 #[inline(always)]
@@ -71,6 +71,96 @@ pub(crate) fn ascii_valid_up_to_by_length<const KNOWN: usize, const ALL: bool>(
     }
     let last = bytes.len() - BLOCK;
     last + run_len_below::<BLOCK>(bytes, last, ASCII_END)
+}
+
+/// Copies the longest ASCII prefix, up to the shorter of the two lengths. Returns the first byte within that length
+/// that isn't ASCII and its index, or `None`.
+#[inline(always)]
+pub fn ascii_to_ascii(src: &[u8], dst: &mut [u8]) -> Option<(u8, usize)>
+    ensures found { IsFirstOther (take (length dst.old) src.now) result }
+    ensures copied { let n = prefix_length_by (take (length dst.old) src.now) result in
+        WritesPrefix dst.old dst.new n (take n src.now) }
+{
+    let fitting = &src[..src.len().min(dst.len())];
+    let (strides, _) = fitting.as_chunks::<STRIDE>();
+    if let Some(first) = strides.first() {
+        let run = run_len_below::<STRIDE>(first, 0, ASCII_END);
+        if run < STRIDE {
+            copy_first(first, dst, 0, run);
+            return Some((fitting[run], run));
+        }
+    }
+    let (fours, _) = strides.as_chunks::<FOUR>();
+    let mut at = 0;
+    for four in fours {
+        let block = four.as_flattened();
+        if !are_bytes_below::<BLOCK>(block, 0, ASCII_END) {
+            break;
+        }
+        copy::<BLOCK>(block, 0, dst, at);
+        at += BLOCK;
+    }
+    for i in at / STRIDE..strides.len() {
+        let run = run_len_below::<STRIDE>(&strides[i], 0, ASCII_END);
+        if run < STRIDE {
+            copy_first(&strides[i], dst, at, run);
+            return Some((fitting[at + run], at + run));
+        }
+        copy::<STRIDE>(&strides[i], 0, dst, at);
+        at += STRIDE;
+    }
+    for i in at..fitting.len() {
+        if fitting[i] >= ASCII_END {
+            return Some((fitting[i], i));
+        }
+        dst[i] = fitting[i];
+    }
+    None
+}
+
+/// Copies the longest ASCII prefix, each byte as a UTF-16 code unit, up to the shorter of the two lengths. Returns the
+/// first byte within that length that isn't ASCII and its index, or `None`.
+#[inline(always)]
+pub fn ascii_to_basic_latin(src: &[u8], dst: &mut [u16]) -> Option<(u8, usize)>
+    ensures found { IsFirstOther (take (length dst.old) src.now) result }
+    ensures copied { let n = prefix_length_by (take (length dst.old) src.now) result in
+        WritesPrefix dst.old dst.new n (take n src.now) }
+{
+    let fitting = &src[..src.len().min(dst.len())];
+    let (strides, _) = fitting.as_chunks::<STRIDE>();
+    if let Some(first) = strides.first() {
+        let run = run_len_below::<STRIDE>(first, 0, ASCII_END);
+        if run < STRIDE {
+            unpack_first(first, dst, 0, run);
+            return Some((fitting[run], run));
+        }
+    }
+    let (fours, _) = strides.as_chunks::<FOUR>();
+    let mut at = 0;
+    for four in fours {
+        let block = four.as_flattened();
+        if !are_bytes_below::<BLOCK>(block, 0, ASCII_END) {
+            break;
+        }
+        unpack::<BLOCK>(block, 0, dst, at);
+        at += BLOCK;
+    }
+    for i in at / STRIDE..strides.len() {
+        let run = run_len_below::<STRIDE>(&strides[i], 0, ASCII_END);
+        if run < STRIDE {
+            unpack_first(&strides[i], dst, at, run);
+            return Some((fitting[at + run], at + run));
+        }
+        unpack::<STRIDE>(&strides[i], 0, dst, at);
+        at += STRIDE;
+    }
+    for i in at..fitting.len() {
+        if fitting[i] >= ASCII_END {
+            return Some((fitting[i], i));
+        }
+        dst[i] = u16::from(fitting[i]);
+    }
+    None
 }
 
 /// Copies the ASCII prefix by blocks, and returns its length, or 0 if `dst` is shorter than `src`. One mask finds its end in the

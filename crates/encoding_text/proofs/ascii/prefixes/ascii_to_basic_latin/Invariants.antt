@@ -1,7 +1,7 @@
 use Rattle.std.proofs.Common.{◌≡◌, ◌*◌, take}
 use Rattle.encoding_definitions.specs.Prefixes.{WritesPrefix}
 use Rattle.encoding_kernels.specs.Scans.{BelowUpTo}
-use Rattle.encoding_text.proofs.ascii.ascii_to_ascii.Given as goal
+use Rattle.encoding_text.proofs.ascii.prefixes.ascii_to_basic_latin.Given as goal
 
 abbrev pub invariant-loop-four : goal.invariant-loop-four
 invariant-loop-four l = record {
