@@ -1,10 +1,9 @@
 //! Checks of text for right-to-left characters and for Latin1.
 
-ghost use Rattle.std.specs.Prelude.{◌≡◌, ◌<◌, ◌≤◌, ◌↔◌, ◌⊎◌, ℕ, length, take, IfSome, IfNone, IsTrue, IsFalse};
+ghost use Rattle.std.specs.Prelude.{◌≡◌, ◌<◌, ◌≤◌, ◌↔◌, ◌⊎◌, ℕ, length, IsTrue, IsFalse};
 ghost use Rattle.std.specs.Str.{IsUtf8};
 ghost use Rattle.std.specs.Int.{IsInRange};
 ghost use Rattle.encoding_definitions.specs.Latin1.{IsLatin1, IsUtf8Latin1};
-ghost use Rattle.encoding_definitions.specs.Sequence.{IsSequence};
 ghost use Rattle.encoding_definitions.specs.Bidi.{IsRightToLeft, IsRightToLeftUnit, IsBidiUnits, IsBidiText, IsBidiBytes};
 ghost use Rattle.encoding_text.specs.Classes.{Classifies};
 ghost use Rattle.encoding_kernels.specs.RightToLeft.{rtl_second_end, rtl_mark_lead, RtlAt, NoRtlIn};
@@ -81,14 +80,6 @@ pub fn is_utf16_code_unit_bidi(u: u16) -> bool
     is_right_to_left(unit)
 }
 
-/// Returns whether the one character that these bytes encode is right-to-left.
-fn is_sequence_bidi(bytes: &[u8]) -> bool
-    requires { IsSequence bytes.now }
-    ensures { IsTrue result ↔ IsBidiText bytes.now }
-{
-    is_right_to_left(decode_utf8_scalar(bytes))
-}
-
 /// Returns whether right-to-left characters may start with the byte.
 fn may_start_rtl(lead: u8) -> bool
     ensures { IsFalse result → (third : ℕ) → rtl_second_end lead (rtl_mark_lead third) ≡ 0 }
@@ -110,7 +101,7 @@ fn stands_at(bytes: &[u8], at: usize) -> bool
     let Some(length) = character_length(&bytes[at..]) else {
         return false;
     };
-    is_sequence_bidi(&bytes[at..at + length])
+    is_right_to_left(decode_utf8_scalar(&bytes[at..at + length]))
 }
 
 /// Returns whether a right-to-left character starts at one of the indices.
@@ -150,42 +141,30 @@ pub fn is_str_bidi(buffer: &str) -> bool
     is_text_bidi(buffer.as_bytes())
 }
 
-/// Returns the length of a prefix that is well-formed and has no right-to-left character, by whole blocks: its ASCII, and
-/// a piece after it. Returns `None` if the piece has such a character.
-fn clear_prefix_len(bytes: &[u8]) -> Option<usize>
-    ensures clear { IfSome result (λ n. (n ≤ length bytes.now) × IsUtf8 (take n bytes.now)
-        × (IsBidiText (take n bytes.now) → ⊥)) }
-    ensures found { IfNone result (IsBidiBytes bytes.now) }
-{
-    let prefix = ascii_valid_up_to_by_length::<0, true>(bytes);
-    if prefix == bytes.len() {
-        return Some(prefix);
-    }
-    let rest = &bytes[prefix..];
-    let valid = utf8_valid_up_to(&rest[..VALIDATED_PIECE.min(rest.len())]);
-    if is_text_bidi(&rest[..valid]) {
-        return None;
-    }
-    Some(prefix + valid)
-}
-
 /// Returns whether the bytes are not well-formed UTF-8, or one of their characters is right-to-left.
 pub fn is_utf8_bidi(buffer: &[u8]) -> bool
     ensures { IsTrue result ↔ IsBidiBytes buffer.now }
 {
     let mut rest = buffer;
     loop {
-        let Some(clear) = clear_prefix_len(rest) else {
+        // first by whole blocks: the ASCII, and a piece after it
+        let prefix = ascii_valid_up_to_by_length::<0, true>(rest);
+        rest = &rest[prefix..];
+        if rest.is_empty() {
+            return false;
+        }
+        let valid = utf8_valid_up_to(&rest[..VALIDATED_PIECE.min(rest.len())]);
+        if is_text_bidi(&rest[..valid]) {
             return true;
-        };
-        rest = &rest[clear..];
+        }
+        rest = &rest[valid..];
         if rest.is_empty() {
             return false;
         }
         let Some(length) = character_length(rest) else {
             return true;
         };
-        if is_sequence_bidi(&rest[..length]) {
+        if is_right_to_left(decode_utf8_scalar(&rest[..length])) {
             return true;
         }
         rest = &rest[length..];

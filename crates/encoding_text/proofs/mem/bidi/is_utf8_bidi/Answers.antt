@@ -1,60 +1,79 @@
-use Rattle.std.proofs.Common.{ℕ, ◌<◌, ◌≤◌, inl, length, take, drop, arith, refl, sym, ◌∙◌}
-use Rattle.std.proofs.lemmas.List.{take_rest, length-drop, length-take}
+use Rattle.std.proofs.Common.{◌≡◌, ℕ, ◌-◌, ◌≤◌, ◌↔◌, inl, List, length, take, drop, arith, refl, sym, ◌∙◌, subst}
+use Rattle.std.specs.Str.{IsAscii, IsUtf8}
+use Rattle.std.proofs.lemmas.List.{take_rest, take-take, length-take}
 use Rattle.std.proofs.lemmas.Bool.{eqb-true, eqb-false}
 use Rattle.std.proofs.lemmas.Str.{IsUtf8-nil}
-use Rattle.encoding_definitions.specs.Bidi.{IsBidiText}
-use Rattle.encoding_definitions.specs.Parts.{BeginsWithNoCharacter}
-use Rattle.encoding_definitions.specs.Sequence.{IsSequence}
-use Rattle.encoding_definitions.proofs.BidiTextLemmas.{found_in_bytes, rejected_no_text}
+use Rattle.encoding_definitions.specs.Bidi.{IsBidiBytes, IsBidiText}
+use Rattle.encoding_definitions.specs.Prefixes.{IsLongestPrefix}
+use Rattle.encoding_definitions.proofs.BidiTextLemmas.{character_bidi, bidi_character, found_in_bytes, rejected_no_text}
 use Rattle.encoding_definitions.proofs.Utf8Lemmas.{IsUtf8-sequence}
-use Rattle.encoding_kernels.proofs.BidiLemmas.{IsLeftToRight, clear_whole, clear_rest, clear_none}
+use Rattle.encoding_kernels.proofs.ScanLemmas.{below_prefix}
+use Rattle.encoding_kernels.proofs.BidiLemmas.{IsLeftToRight, ascii_text, clear_whole, clear_rest, clear_none}
 use Rattle.encoding_text.proofs.mem.bidi.is_utf8_bidi.Goals as goal
 
-pub returns-in_default : goal.returns-in_default
-returns-in_default c = (λ _. c.loop-clear.invariant.0 c.in_default.ensures.found, λ _. refl)
+-- the slice from an index on
+abbrev rest : List ℕ → ℕ → List ℕ
+rest bs n = take (length bs - n) (drop n bs)
+
+-- left-to-right characters at the start decide nothing
+after : (bs : List ℕ) (n : ℕ) → n ≤ length bs → IsLeftToRight (take n bs) → IsBidiBytes (rest bs n) ↔ IsBidiBytes bs
+after bs n within clear = rw take_rest (clear_whole bs n within clear, clear_rest bs n within clear)
+
+after_ascii : (bs all : List ℕ) (n : ℕ) → (IsBidiBytes bs ↔ IsBidiBytes all) → IsLongestPrefix IsAscii bs n → IsBidiBytes (rest bs n) ↔ IsBidiBytes all
+after_ascii bs all n same prefix =
+    let step = after bs n prefix.within (ascii_text bs n prefix.within (below_prefix bs n prefix)) in
+    (λ b. same.0 (step.0 b), λ b. step.1 (same.1 b))
+
+-- the ASCII, and a well-formed piece after it
+after_piece : (bs all : List ℕ) (n most k : ℕ) → (IsBidiBytes bs ↔ IsBidiBytes all) → IsLongestPrefix IsAscii bs n
+    → IsLongestPrefix IsUtf8 (take most (rest bs n)) k → (IsBidiText (take k (rest bs n)) → ⊥) → IsBidiBytes (rest (rest bs n) k) ↔ IsBidiBytes all
+after_piece bs all n most k same prefix piece none =
+    let before = after_ascii bs all n same prefix in
+    let text = subst IsUtf8 (take-take k most (rest bs n) (omega (arith, piece.within, length-take most (rest bs n)))) piece.kind in
+    let step = after (rest bs n) k (omega (arith, piece.within, length-take most (rest bs n))) (text, none) in
+    (λ b. before.0 (step.0 b), λ b. step.1 (before.1 b))
+
+empty_clear : (bs : List ℕ) → length bs ≡ 0 → IsBidiBytes bs → ⊥
+empty_clear bs none = clear_none bs 0 (omega (arith, none)) (ascii_text bs 0 (omega arith) (λ k l. absurd (omega (arith, l))))
 
 pub returns-then-is_empty : goal.returns-then-is_empty
 returns-then-is_empty c =
-    let r = c.loop-clear.rest.now in
-    let n = c.in-Some.clear in
-    let clear = c.in-Some.ensures.clear in
-    let none = eqb-true _ _ (sym c.is_empty.ensures ∙ c.if-is_empty.true) in
-    let whole : length r ≤ n = omega (arith, none, length-take {A = ℕ}, length-drop n r) in
-    (λ e. absurd (cc), λ b. absurd (clear_none r n whole (clear.1, clear.2) (c.loop-clear.invariant.1 b)))
+    let same = after_ascii _ _ _ c.loop-rest.invariant c.ascii_valid_up_to_by_length-prefix.ensures in
+    (λ e. absurd (cc), λ b. absurd (empty_clear _ (eqb-true _ _ (sym c.is_empty.ensures ∙ c.if-is_empty.true)) (same.1 b)))
 
-pub returns-in_default-character_length : goal.returns-in_default-character_length
-returns-in_default-character_length c =
-    let r = c.loop-clear.rest.now in
-    let n = c.in-Some.clear in
-    let clear = c.in-Some.ensures.clear in
-    let none : BeginsWithNoCharacter (drop n r) = rw take_rest at c.in_default-character_length.ensures.no_character in
-    let left = eqb-false _ _ (sym c.is_empty.ensures ∙ c.if-is_empty.false) in
-    let some : 0 < length (drop n r) = omega (arith, left, length-take {A = ℕ}, length-drop n r) in
-    (λ _. c.loop-clear.invariant.0 (clear_whole r n clear.0 (clear.1, clear.2) (inl (rejected_no_text (drop n r) 0 some IsUtf8-nil none))), λ _. refl)
+pub returns-then-is_text_bidi : goal.returns-then-is_text_bidi
+returns-then-is_text_bidi c =
+    let same = after_ascii _ _ _ c.loop-rest.invariant c.ascii_valid_up_to_by_length-prefix.ensures in
+    (λ _. same.0 (found_in_bytes _ 0 _ (omega arith) IsUtf8-nil ((c.if-is_text_bidi.ensures {u = tt}).0 refl)), λ _. refl)
 
-pub returns-then-is_sequence_bidi : goal.returns-then-is_sequence_bidi
-returns-then-is_sequence_bidi c =
-    let r = c.loop-clear.rest.now in
-    let n = c.in-Some.clear in
-    let clear = c.in-Some.ensures.clear in
-    let found : IsBidiText (take c.in-Some-character_length.length (drop n r)) = rw take_rest at (c.if-is_sequence_bidi.ensures {u = tt}).0 refl in
-    (λ _. c.loop-clear.invariant.0 (clear_whole r n clear.0 (clear.1, clear.2) (found_in_bytes (drop n r) 0 _ (omega arith) IsUtf8-nil found)), λ _. refl)
+pub returns-then-is_empty-2 : goal.returns-then-is_empty-2
+returns-then-is_empty-2 c =
+    let same = after_piece _ _ _ _ _ c.loop-rest.invariant c.ascii_valid_up_to_by_length-prefix.ensures c.utf8_valid_up_to-valid.ensures
+    (λ b. let e = (c.if-is_text_bidi.ensures {u = tt}).1 b in cc) in
+    (λ e. absurd (cc), λ b. absurd (empty_clear _ (eqb-true _ _ (sym c.is_empty-in-loop-rest.ensures ∙ c.if-is_empty-2.true)) (same.1 b)))
 
-pub loop-clear-smaller : goal.loop-clear-smaller
-loop-clear-smaller c =
-    let r = c.loop-clear.rest.now in
-    omega (arith, c.in-Some.ensures.clear.0, c.in-Some-character_length.ensures.length, length-take {A = ℕ}, length-drop {A = ℕ})
+pub returns-in_default : goal.returns-in_default
+returns-in_default c =
+    let same = after_piece _ _ _ _ _ c.loop-rest.invariant c.ascii_valid_up_to_by_length-prefix.ensures c.utf8_valid_up_to-valid.ensures
+    (λ b. let e = (c.if-is_text_bidi.ensures {u = tt}).1 b in cc) in
+    let some = eqb-false _ _ (sym c.is_empty-in-loop-rest.ensures ∙ c.if-is_empty-2.false) in
+    (λ _. same.0 (inl (rejected_no_text _ 0 (omega (arith, some)) IsUtf8-nil c.in_default.ensures.no_character)), λ _. refl)
 
-pub loop-clear-preserved : goal.loop-clear-preserved
-loop-clear-preserved c =
-    let r = c.loop-clear.rest.now in
-    let n = c.in-Some.clear in
-    let s = drop n r in
-    let k = c.in-Some-character_length.length in
-    let clear = c.in-Some.ensures.clear in
-    let found : (0 < k) × (k ≤ length s) × IsSequence (take k s) = rw take_rest at c.in-Some-character_length.ensures.length in
-    let none : IsBidiText (take k s) → ⊥ = λ b. let is = rw take_rest at (c.if-is_sequence_bidi.ensures {u = tt}).1 in absurd (let e = is b in cc) in
-    let step : IsLeftToRight (take k s) = (IsUtf8-sequence (take k s) found.2, none) in (
-      λ b. c.loop-clear.invariant.0 (clear_whole r n clear.0 (clear.1, clear.2) (clear_whole s k found.1 step (rw take_rest at (rw take_rest at b)))),
-      λ b. rw take_rest (rw take_rest (clear_rest s k found.1 step (clear_rest r n clear.0 (clear.1, clear.2) (c.loop-clear.invariant.1 b)))),
-    )
+pub returns-then-is_right_to_left : goal.returns-then-is_right_to_left
+returns-then-is_right_to_left c =
+    let same = after_piece _ _ _ _ _ c.loop-rest.invariant c.ascii_valid_up_to_by_length-prefix.ensures c.utf8_valid_up_to-valid.ensures
+    (λ b. let e = (c.if-is_text_bidi.ensures {u = tt}).1 b in cc) in
+    let scalar = c.decode_utf8_scalar.ensures in
+    let found = character_bidi _ _ scalar.scalar scalar.spelled ((c.if-is_right_to_left.ensures {u = tt}).0 refl) in
+    (λ _. same.0 (found_in_bytes _ 0 _ (omega arith) IsUtf8-nil found), λ _. refl)
+
+pub loop-rest-preserved : goal.loop-rest-preserved
+loop-rest-preserved c =
+    let same = after_piece _ _ _ _ _ c.loop-rest.invariant c.ascii_valid_up_to_by_length-prefix.ensures c.utf8_valid_up_to-valid.ensures
+    (λ b. let e = (c.if-is_text_bidi.ensures {u = tt}).1 b in cc) in
+    let found = c.in-Some.ensures.length in
+    let step = after _ _ found.1 (
+      IsUtf8-sequence _ found.2,
+      λ b. let e = (c.if-is_right_to_left.ensures {u = tt}).1 (bidi_character _ _ c.decode_utf8_scalar.ensures.spelled b) in cc,
+    ) in
+    (λ b. same.0 (step.0 b), λ b. step.1 (same.1 b))
