@@ -52,20 +52,24 @@ pub fn copy_prefix(src: &[u8], dst: &mut [u8])
     requires { length src.now ≤ length dst.old }
     ensures { WritesPrefix dst.old dst.new (length src.now) src.now }
 {
+    if src.len() >= STRIDE {
+        return match src.len() {
+            ..HALF_BLOCK => copy_by_strides::<STRIDE>(src, dst),
+            ..=BLOCK => copy_by_strides::<HALF_BLOCK>(src, dst),
+            ..=LONGEST_VECTOR_COPY => copy_by_strides::<STRIDE>(src, dst),
+            _ => dst[..src.len()].copy_from_slice(src),
+        };
+    }
     match src.len() {
-        0 => {}
-        1..4 => {
+        HALF_STRIDE.. => copy_by_strides::<HALF_STRIDE>(src, dst),
+        4.. => copy_by_strides::<4>(src, dst),
+        1.. => {
             let (middle, last) = (src.len() / 2, src.len() - 1);
             dst[0] = src[0];
             dst[middle] = src[middle];
             dst[last] = src[last];
         }
-        ..HALF_STRIDE => copy_by_strides::<4>(src, dst),
-        ..STRIDE => copy_by_strides::<HALF_STRIDE>(src, dst),
-        ..HALF_BLOCK => copy_by_strides::<STRIDE>(src, dst),
-        ..=BLOCK => copy_by_strides::<HALF_BLOCK>(src, dst),
-        ..=LONGEST_VECTOR_COPY => copy_by_strides::<STRIDE>(src, dst),
-        _ => dst[..src.len()].copy_from_slice(src),
+        _ => {}
     }
 }
 

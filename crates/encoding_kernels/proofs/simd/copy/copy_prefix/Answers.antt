@@ -16,8 +16,8 @@ copied (a ∷ b ∷ c ∷ []) (x ∷ y ∷ []) some few room = absurd (omega (ar
 copied (a ∷ b ∷ c ∷ []) (x ∷ y ∷ z ∷ dst) some few room = refl
 copied (a ∷ b ∷ c ∷ d ∷ src) dst some few room = absurd (omega (arith, few))
 
-pub returns-in-1-to-3 : goal.returns-in-1-to-3
-returns-in-1-to-3 c = record {
+pub returns-in-1-to-max : goal.returns-in-1-to-max
+returns-in-1-to-max c = record {
   count = refl;
   fits = c.requires;
   placed = copied c.args.src.now c.args.dst.now (omega arith) (omega arith) c.requires;
