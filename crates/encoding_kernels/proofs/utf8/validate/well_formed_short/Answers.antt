@@ -41,7 +41,9 @@ back-requires c =
           let few : n ≤ 16 = omega (arith, w.if-src-ge-STRIDE) in
           let long = ap length w.with_zeros.ensures ∙ length-append src (drop n (replicate 16 0)) in
           let whole = ap (take n) w.with_zeros.ensures ∙ take_at src (drop n (replicate 16 0)) n refl in
-          let at_start = ValidUpTo-first block w.zeros-else-src-ge-STRIDE.result (λ i l. w.faults-else-src-ge-STRIDE.ensures.lanes i (omega (arith, clean.within)) (clean.zeros.each i l)) in (
+          let at_start =
+          ValidUpTo-first block w.zeros-else-src-ge-STRIDE.result (λ i l. w.faults-else-src-ge-STRIDE.ensures.lanes i (omega (arith, clean.within))
+          (clean.zeros.each i l)) in (
             omega (arith, short, w.clean-is),
             record {
               each = λ i l.

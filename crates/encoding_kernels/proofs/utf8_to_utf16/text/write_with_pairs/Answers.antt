@@ -24,7 +24,8 @@ run : (src : List ℕ) (at : ℕ) (bits values : List ℕ) → at + 16 ≤ lengt
     → (r : ℕ) → (mask src at bits values ≡ 0 → r ≡ 16) → (0 < mask src at bits values → r ≡ count_trailing_zeros 64 (mask src at bits values))
     → IsFirstSet 16 r (other src at bits values)
 run src at bits values room b v =
-    run_is_first (tests_of w8 (λ a b. not (eqb a b)) (HasLanes-zip2 bit_and (HasLanes_load at 16 src room) (HasLanes-itself 16 bits b)) (HasLanes-itself 16 values v)) (omega arith)
+    run_is_first (tests_of w8 (λ a b. not (eqb a b)) (HasLanes-zip2 bit_and (HasLanes_load at 16 src room) (HasLanes-itself 16 bits b))
+    (HasLanes-itself 16 values v)) (omega arith)
 
 -- where the characters of three bytes end
 abbrev Ends : ℕ → ℕ → ℕ → Type 0
@@ -71,7 +72,9 @@ module _ (src : List ℕ) (bytes : (k : ℕ) → Fits w8 (get_or src k 0)) (room
 pub overflow_add-end : goal.overflow_add-end
 overflow_add-end c =
     let later = c.run_before-before_later in
-    let last = run c.args.src.now 8 LATER_BITS LATER_VALUES (omega (arith, c.requires.dst_length)) refl refl later.result later.ensures.none_failing later.ensures.first_failing in
+    let last =
+    run c.args.src.now 8 LATER_BITS LATER_VALUES
+    (omega (arith, c.requires.dst_length)) refl refl later.result later.ensures.none_failing later.ensures.first_failing in
     omega (arith, last.within)
 
 pub are_bytes_below-requires-then-are_bytes_below : goal.are_bytes_below-requires-then-are_bytes_below
@@ -108,6 +111,7 @@ returns-then-not-are_bytes_below-clause-written c =
     first.ensures.none_failing first.ensures.first_failing later.ensures.none_failing later.ensures.first_failing
     (elim c.if-before-lt16.branch [ then-before-lt16 w ↦ inl w.end-is | else-before-lt16 w ↦ inr (omega (arith, w.if-before-lt16), w.end-is) ]) in
     let count = c.if-before-lt16.end / 3 in
-    let due = due_block c.args.src.now c.args.dst.now c.write_triples.new.dst (3 * count) count 8 c.requires.text (omega (arith, eight.0)) c.write_triples.ensures in
+    let due = due_block c.args.src.now c.args.dst.now c.write_triples.new.dst (3 * count) count 8 c.requires.text
+    (omega (arith, eight.0)) c.write_triples.ensures in
     let puts = rw (take_rest c.args.src.now (3 * count)) at c.write_block-bytes.ensures.written in
     putting_some (putting_more _ _ _ _ _ _ _ _ (omega (arith, eight.0)) (putting_first _ _ _ _ _ c.requires.text due) puts)
