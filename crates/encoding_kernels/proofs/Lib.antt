@@ -16,6 +16,7 @@ pub mod MaskPartLemmas
 pub mod MixedLemmas
 pub mod OverwriteLemmas
 pub mod PairsLemmas
+pub mod ScalarsLemmas
 pub mod ScanLemmas
 pub mod SignedLemmas
 pub mod SumLemmas

@@ -1,4 +1,4 @@
--- Code units of bytes: each by its index, sixteen as a vector, and the bytes of code units.
+-- Code units of bytes: each by its index, eight or sixteen as a vector, and the bytes of code units.
 use Rattle.std.proofs.Common.{take-add, ◌≡◌, ℕ, zero, suc, ◌+◌, ◌-◌, ◌*◌, ◌/◌, ◌%◌, ◌^◌, ◌<◌, ◌≤◌, Bool, true, false, List, [], ◌∷◌, ◌++◌, length, take, drop, get_or, refl, set, map, bit_and, bit_or, inl, inr, sym, ap, ◌∙◌, arith, replicate}
 use Rattle.std.proofs.lemmas.List.{get_or-take, get_or-drop, length-drop, length-map, length-take-le, get_or-map, take_more, take_rest, take_all, take_at, take-take, length-append, drop_at, drop-drop, take-append-drop}
 use Rattle.std.proofs.Math.Seq.{drop-nil}
@@ -16,7 +16,7 @@ use Rattle.std.specs.Simd.{first_chunks}
 use Rattle.encoding_kernels.proofs.ScanLemmas.{joined_firsts}
 use Rattle.encoding_kernels.specs.UnitBytes.{bytes_in, unit_of, units_of}
 use Rattle.encoding_kernels.proofs.CopyLemmas.{lower_are}
-use Rattle.encoding_kernels.proofs.VectorLemmas.{HasLanes-zip2, HasLanes-splat, HasLanes_same, wide_sixteen, wide_sixteen_l}
+use Rattle.encoding_kernels.proofs.VectorLemmas.{HasLanes-zip2, HasLanes-splat, HasLanes_same, wide, wide_l, wide_sixteen, wide_sixteen_l}
 
 pub length-units_of : (big : Bool) (bs : List ℕ) → length (units_of big bs) ≡ length bs / 2
 length-units_of big [] = refl
@@ -132,43 +132,50 @@ unit_at_is big (a ∷ b ∷ bs) (suc k) l =
     let second : suc (suc (2 * k + 1)) ≡ 2 * suc k + 1 = omega arith in
     unit_at_is big bs k (omega (arith, l)) ∙ (λ i. unit_of big (get_or (a ∷ b ∷ bs) (first i) 0) (get_or (a ∷ b ∷ bs) (second i) 0))
 
--- sixteen lanes that are code units
-pub sixteen_are : (big : Bool) (bs lanes : List ℕ) (at : ℕ) → 2 * at + 32 ≤ length bs
-    → HasLanes 16 lanes (λ k. unit_of big (get_or bs (2 * at + 2 * k) 0) (get_or bs (2 * at + (2 * k + 1)) 0))
-    → lanes ≡ take 16 (drop at (units_of big bs))
-sixteen_are big bs lanes at room h =
+-- n lanes that are code units
+units_are : (n : ℕ) (big : Bool) (bs lanes : List ℕ) (at : ℕ) → 2 * at + 2 * n ≤ length bs
+    → HasLanes n lanes (λ k. unit_of big (get_or bs (2 * at + 2 * k) 0) (get_or bs (2 * at + (2 * k + 1)) 0))
+    → lanes ≡ take n (drop at (units_of big bs))
+units_are n big bs lanes at room h =
     let us = units_of big bs in
-    let long : length (take 16 (drop at us)) ≡ 16 =
-    length-take-le 16 (drop at us) (omega (arith, length-drop at us, length-units_of big bs)) in
-    same_number_lists lanes (take 16 (drop at us)) (h.long ∙ sym long) (λ k l.
-    let less : k < 16 = omega (arith, h.long) in
+    let long : length (take n (drop at us)) ≡ n =
+    length-take-le n (drop at us) (omega (arith, length-drop at us, length-units_of big bs)) in
+    same_number_lists lanes (take n (drop at us)) (h.long ∙ sym long) (λ k l.
+    let less : k < n = omega (arith, h.long) in
     let first : 2 * at + 2 * k ≡ 2 * (at + k) = omega arith in
     let second : 2 * at + (2 * k + 1) ≡ 2 * (at + k) + 1 = omega arith in
     h.each k less ∙ (λ i. unit_of big (get_or bs (first i) 0) (get_or bs (second i) 0))
-    ∙ sym (get_or-take 16 (drop at us) k 0 less ∙ get_or-drop at us k 0 ∙ unit_at_is big bs (at + k) (omega arith)))
+    ∙ sym (get_or-take n (drop at us) k 0 less ∙ get_or-drop at us k 0 ∙ unit_at_is big bs (at + k) (omega arith)))
 
-module _ (bs : List ℕ) (at : ℕ) (room : 2 * at + 32 ≤ length bs) (fit : Each1 (λ x. x < 256) bs) where
-  loaded : List ℕ
-  loaded = chunk (2 * at) 32 bs
+swapped : (a b : ℕ) → a < 256 → b < 256 → ((a + 256 * b) * 2 ^ 8 % 2 ^ 16 + (a + 256 * b) / 2 ^ 8) % 2 ^ 16 ≡ 0x100 * a + b
+swapped a b l m = omega arith
 
-  loaded_lanes : HasLanes 16 (wide_sixteen_l (chunk (2 * at) 32 bs)) (λ k. get_or bs (2 * at + 2 * k) 0 + 256 * get_or bs (2 * at + (2 * k + 1)) 0)
-  loaded_lanes = HasLanes_same (wide_sixteen (chunk (2 * at) 32 bs) (length-chunk (2 * at) 32 bs room) (Each1-chunk (λ x. x < 256) (2 * at) 32 bs fit))
-      (λ k l. (λ i. get_or-chunk (2 * at) 32 bs (2 * k) 0 (omega arith) i + 256 * get_or-chunk (2 * at) 32 bs (2 * k + 1) 0 (omega arith) i))
+module _ (n : ℕ) (bs words : List ℕ) (at : ℕ) (room : 2 * at + 2 * n ≤ length bs) (fit : Each1 (λ x. x < 256) bs)
+    (loaded : HasLanes n words (λ k. get_or bs (2 * at + 2 * k) 0 + 256 * get_or bs (2 * at + (2 * k + 1)) 0)) where
+  little_units : words ≡ take n (drop at (units_of false bs))
+  little_units = units_are n false bs _ at room loaded
 
-  pub little_sixteen : wide_sixteen_l (chunk (2 * at) 32 bs) ≡ take 16 (drop at (units_of false bs))
-  little_sixteen = sixteen_are false bs _ at room loaded_lanes
-
-  pub big_sixteen : zip2 (λ a b. (a + b) % 2 ^ 16) (zip2 (λ a b. a * 2 ^ b % 2 ^ 16) (wide_sixteen_l (chunk (2 * at) 32 bs)) (replicate 16 8))
-      (zip2 (λ a b. a / 2 ^ b) (wide_sixteen_l (chunk (2 * at) 32 bs)) (replicate 16 8)) ≡ take 16 (drop at (units_of true bs))
-  big_sixteen =
-      let left = HasLanes-zip2 (λ a b. a * 2 ^ b % 2 ^ 16) loaded_lanes (HasLanes-splat 16 8) in
-      let right = HasLanes-zip2 (λ a b. a / 2 ^ b) loaded_lanes (HasLanes-splat 16 8) in
-      sixteen_are true bs _ at room (HasLanes_same (HasLanes-zip2 (λ a b. (a + b) % 2 ^ 16) left right) (λ k l.
+  big_units : zip2 (λ a b. (a + b) % 2 ^ 16) (zip2 (λ a b. a * 2 ^ b % 2 ^ 16) words (replicate n 8)) (zip2 (λ a b. a / 2 ^ b) words (replicate n 8))
+      ≡ take n (drop at (units_of true bs))
+  big_units =
+      let left = HasLanes-zip2 (λ a b. a * 2 ^ b % 2 ^ 16) loaded (HasLanes-splat n 8) in
+      let right = HasLanes-zip2 (λ a b. a / 2 ^ b) loaded (HasLanes-splat n 8) in
+      units_are n true bs _ at room (HasLanes_same (HasLanes-zip2 (λ a b. (a + b) % 2 ^ 16) left right) (λ k l.
       swapped (get_or bs (2 * at + 2 * k) 0) (get_or bs (2 * at + (2 * k + 1)) 0) (Each1-get_or (λ x. x < 256) bs (2 * at + 2 * k) 0 (omega arith) fit)
       (Each1-get_or (λ x. x < 256) bs (2 * at + (2 * k + 1)) 0 (omega arith) fit)))
-    where
-      swapped : (a b : ℕ) → a < 256 → b < 256 → ((a + 256 * b) * 2 ^ 8 % 2 ^ 16 + (a + 256 * b) / 2 ^ 8) % 2 ^ 16 ≡ 0x100 * a + b
-      swapped a b l m = omega arith
+
+module _ (bs : List ℕ) (at : ℕ) (fit : Each1 (λ x. x < 256) bs) where
+  sixteen_loaded : 2 * at + 32 ≤ length bs
+      → HasLanes 16 (wide_sixteen_l (chunk (2 * at) 32 bs)) (λ k. get_or bs (2 * at + 2 * k) 0 + 256 * get_or bs (2 * at + (2 * k + 1)) 0)
+  sixteen_loaded room =
+      HasLanes_same (wide_sixteen (chunk (2 * at) 32 bs) (length-chunk (2 * at) 32 bs room) (Each1-chunk (λ x. x < 256) (2 * at) 32 bs fit))
+      (λ k l. (λ i. get_or-chunk (2 * at) 32 bs (2 * k) 0 (omega arith) i + 256 * get_or-chunk (2 * at) 32 bs (2 * k + 1) 0 (omega arith) i))
+
+  eight_loaded : 2 * at + 16 ≤ length bs
+      → HasLanes 8 (wide_l (chunk (2 * at) 16 bs)) (λ k. get_or bs (2 * at + 2 * k) 0 + 256 * get_or bs (2 * at + (2 * k + 1)) 0)
+  eight_loaded room =
+      HasLanes_same (wide (chunk (2 * at) 16 bs) (length-chunk (2 * at) 16 bs room) (Each1-chunk (λ x. x < 256) (2 * at) 16 bs fit))
+      (λ k l. (λ i. get_or-chunk (2 * at) 16 bs (2 * k) 0 (omega arith) i + 256 * get_or-chunk (2 * at) 16 bs (2 * k + 1) 0 (omega arith) i))
 
 pub sixteen_long : (big : Bool) (bs : List ℕ) (at : ℕ) → 2 * at + 32 ≤ length bs → length (take 16 (drop at (units_of big bs))) ≡ 16
 sixteen_long big bs at room = length-take-le 16 (drop at (units_of big bs)) (omega (arith, length-drop at (units_of big bs), length-units_of big bs))
@@ -176,14 +183,25 @@ sixteen_long big bs at room = length-take-le 16 (drop at (units_of big bs)) (ome
 -- for either order
 pub sixteen_of_little : (big : Bool) → big ≡ false → (bs : List ℕ) (at : ℕ) → 2 * at + 32 ≤ length bs → Each1 (λ x. x < 256) bs
     → wide_sixteen_l (chunk (2 * at) 32 bs) ≡ take 16 (drop at (units_of big bs))
-sixteen_of_little false e bs at room fit = little_sixteen bs at room fit
+sixteen_of_little false e bs at room fit = little_units 16 bs _ at room fit (sixteen_loaded bs at fit room)
 sixteen_of_little true e bs at room fit = absurd (false≢true (sym e))
 
 pub sixteen_of_big : (big : Bool) → big ≡ true → (bs : List ℕ) (at : ℕ) → 2 * at + 32 ≤ length bs → Each1 (λ x. x < 256) bs
     → zip2 (λ a b. (a + b) % 2 ^ 16) (zip2 (λ a b. a * 2 ^ b % 2 ^ 16) (wide_sixteen_l (chunk (2 * at) 32 bs)) (replicate 16 8))
     (zip2 (λ a b. a / 2 ^ b) (wide_sixteen_l (chunk (2 * at) 32 bs)) (replicate 16 8)) ≡ take 16 (drop at (units_of big bs))
-sixteen_of_big true e bs at room fit = big_sixteen bs at room fit
+sixteen_of_big true e bs at room fit = big_units 16 bs _ at room fit (sixteen_loaded bs at fit room)
 sixteen_of_big false e bs at room fit = absurd (false≢true e)
+
+pub eight_of_little : (big : Bool) → big ≡ false → (bs : List ℕ) (at : ℕ) → 2 * at + 16 ≤ length bs → Each1 (λ x. x < 256) bs
+    → wide_l (chunk (2 * at) 16 bs) ≡ take 8 (drop at (units_of big bs))
+eight_of_little false e bs at room fit = little_units 8 bs _ at room fit (eight_loaded bs at fit room)
+eight_of_little true e bs at room fit = absurd (false≢true (sym e))
+
+pub eight_of_big : (big : Bool) → big ≡ true → (bs : List ℕ) (at : ℕ) → 2 * at + 16 ≤ length bs → Each1 (λ x. x < 256) bs
+    → zip2 (λ a b. (a + b) % 2 ^ 16) (zip2 (λ a b. a * 2 ^ b % 2 ^ 16) (wide_l (chunk (2 * at) 16 bs)) (replicate 8 8))
+    (zip2 (λ a b. a / 2 ^ b) (wide_l (chunk (2 * at) 16 bs)) (replicate 8 8)) ≡ take 8 (drop at (units_of big bs))
+eight_of_big true e bs at room fit = big_units 8 bs _ at room fit (eight_loaded bs at fit room)
+eight_of_big false e bs at room fit = absurd (false≢true e)
 
 pub unit_of_little : (big : Bool) → big ≡ false → (bs : List ℕ) (k : ℕ) → 2 * k + 2 ≤ length bs
     → get_or bs (2 * k) 0 + 0x100 * get_or bs (2 * k + 1) 0 ≡ get_or (units_of big bs) k 0

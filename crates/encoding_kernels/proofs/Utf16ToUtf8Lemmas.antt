@@ -12,15 +12,16 @@ use Rattle.std.proofs.str.Utf16.{one_unit, two_units, IsPair}
 use Rattle.encoding_definitions.specs.Utf16.{AreCodeUnits, IsHighSurrogate, IsLowSurrogate, Part16, units_of_part16, utf8_of_part16, ArePartsOf16, IsUtf8OfPrefix, Character16}
 use Rattle.encoding_kernels.specs.SurrogatePairs.{IsTwoByteOrHalf, AreTwoByteOrPaired, half_bytes, concatenated, halves_from}
 use Rattle.encoding_definitions.proofs.Utf16Lemmas.{parts_of, parts_exist, parts_unique, rest_parts}
-use Rattle.encoding_definitions.proofs.Utf16PrefixLemmas.{Walked, scalar_of_unit, scalar_of_two, step_walked, step_written, walked_prefix}
+use Rattle.encoding_definitions.proofs.Utf16PrefixLemmas.{Walked, walked_prefix}
 use borrow.Rule.Slice.PartMut.{put_mid}
 use Rattle.encoding_definitions.specs.Prefixes.{WritesPrefix}
-use Rattle.encoding_definitions.proofs.PrefixesLemmas.{WritesPrefix-nil, WritesPrefix-same, WritesPrefix_after, written_is, written_prefix}
-use Rattle.encoding_kernels.specs.Utf8Output.{ConvertsPrefix, SpillsBmp, WritesBmp, AreBmpScalars, Spills, StoresBlock}
+use Rattle.encoding_definitions.proofs.PrefixesLemmas.{WritesPrefix-nil, WritesPrefix-same, WritesPrefix_after, flat_map_push, written_is, written_prefix}
+use Rattle.encoding_kernels.specs.Utf8Output.{ConvertsPrefix, SpillsBmp, WritesBmp, WritesScalars, AreBmpScalars, Spills, StoresBlock}
 use Rattle.encoding_kernels.proofs.OverwriteLemmas.{due_none, due_paid, plain_walked, plain_written, plain_prefix, plain_then, utf8_plain, exact_spills, written_left}
 use Rattle.std.proofs.lemmas.Simd.{Each1-from_get_or}
 use Rattle.std.proofs.lemmas.Str.{encodes-IsAscii}
 use Rattle.std.specs.Simd.Lanes.{put_chunk, Each1}
+use Rattle.encoding_kernels.proofs.ScalarsLemmas.{Taken, pair_begins, scalars_walked, taken_push, unit_begins}
 use Rattle.encoding_kernels.proofs.ScanLemmas.{Each-take}
 use Rattle.encoding_kernels.proofs.MixedLemmas.{zeros_spelled}
 use Rattle.encoding_kernels.proofs.VectorLemmas.{put_is}
@@ -40,37 +41,37 @@ module _ (us : List ℕ) (units : AreCodeUnits us) where
   half_at k = half_bytes (get_or us (k - 1) 0) (get_or us k 0)
 
   -- n more units are whole characters
-  pub record Goes (at n : ℕ) (done : List Part16) : Type 0 where
-    pub all : List Part16
-    pub walked : Walked us (at + n) all
-    pub written : flat_map utf8_of_part16 all ≡ flat_map utf8_of_part16 done ++ halves_from us at n
+  pub record Goes (at n : ℕ) (done : List ℕ) : Type 0 where
+    pub all : List ℕ
+    pub taken : Taken us (at + n) all
+    pub written : flat_map encode_utf8 all ≡ flat_map encode_utf8 done ++ halves_from us at n
 
-  goes_none : (at : ℕ) (done : List Part16) → Walked us at done → Goes at 0 done
+  goes_none : (at : ℕ) (done : List ℕ) → Taken us at done → Goes at 0 done
   unfolding concatenated
   goes_none at done w = record {
     all = done;
-    walked = let place : at ≡ at + 0 = omega arith in subst (λ k. Walked us k done) place w;
-    written = sym (append-nil (flat_map utf8_of_part16 done));
+    taken = let place : at ≡ at + 0 = omega arith in subst (λ k. Taken us k done) place w;
+    written = sym (append-nil (flat_map encode_utf8 done));
   }
 
-  goes_one : (at n : ℕ) (done mid : List Part16) → flat_map utf8_of_part16 mid ≡ flat_map utf8_of_part16 done ++ half_at at → Goes (at + 1) n mid
+  goes_one : (at n : ℕ) (done mid : List ℕ) → flat_map encode_utf8 mid ≡ flat_map encode_utf8 done ++ half_at at → Goes (at + 1) n mid
       → Goes at (suc n) done
   unfolding concatenated
   goes_one at n done mid e g = record {
     all = g.all;
-    walked = let place : at + 1 + n ≡ at + suc n = omega arith in subst (λ k. Walked us k g.all) place g.walked;
-    written = g.written ∙ ap (λ xs. xs ++ halves_from us (at + 1) n) e ∙ append_assoc (flat_map utf8_of_part16 done) (half_at at) (halves_from us (at + 1) n);
+    taken = let place : at + 1 + n ≡ at + suc n = omega arith in subst (λ k. Taken us k g.all) place g.taken;
+    written = g.written ∙ ap (λ xs. xs ++ halves_from us (at + 1) n) e ∙ append_assoc (flat_map encode_utf8 done) (half_at at) (halves_from us (at + 1) n);
   }
 
-  goes_two : (at n : ℕ) (done mid : List Part16) → flat_map utf8_of_part16 mid ≡ flat_map utf8_of_part16 done ++ (half_at at ++ half_at (at + 1))
+  goes_two : (at n : ℕ) (done mid : List ℕ) → flat_map encode_utf8 mid ≡ flat_map encode_utf8 done ++ (half_at at ++ half_at (at + 1))
       → Goes (at + 1 + 1) n mid → Goes at (suc (suc n)) done
   unfolding concatenated
   goes_two at n done mid e g = record {
     all = g.all;
-    walked = let place : at + 1 + 1 + n ≡ at + suc (suc n) = omega arith in subst (λ k. Walked us k g.all) place g.walked;
-    written = g.written ∙ ap (λ xs. xs ++ halves_from us (at + 1 + 1) n) (e ∙ sym (append_assoc (flat_map utf8_of_part16 done) (half_at at) (half_at (at + 1))))
-        ∙ append_assoc (flat_map utf8_of_part16 done ++ half_at at) (half_at (at + 1)) (halves_from us (at + 1 + 1) n)
-        ∙ append_assoc (flat_map utf8_of_part16 done) (half_at at) (half_at (at + 1) ++ halves_from us (at + 1 + 1) n);
+    taken = let place : at + 1 + 1 + n ≡ at + suc (suc n) = omega arith in subst (λ k. Taken us k g.all) place g.taken;
+    written = g.written ∙ ap (λ xs. xs ++ halves_from us (at + 1 + 1) n) (e ∙ sym (append_assoc (flat_map encode_utf8 done) (half_at at) (half_at (at + 1))))
+        ∙ append_assoc (flat_map encode_utf8 done ++ half_at at) (half_at (at + 1)) (halves_from us (at + 1 + 1) n)
+        ∙ append_assoc (flat_map encode_utf8 done) (half_at at) (half_at (at + 1) ++ halves_from us (at + 1 + 1) n);
   }
 
   kind : (u : ℕ) → IsTwoByteOrHalf u → (u < 0x800) ⊎ (IsHighSurrogate u ⊎ IsLowSurrogate u)
@@ -92,30 +93,30 @@ module _ (us : List ℕ) (units : AreCodeUnits us) where
   ends_less at n m e l = let place : at + m + n - 1 ≡ at + (m + n) - 1 = omega arith in
       λ h. e (omega arith) (subst (λ k. IsHighSurrogate (get_or us k 0)) place h)
 
-  after_short : (n at : ℕ) (done : List Part16) → Walked us at done → at < length us → get_or us at 0 < 0x800
-      → ((mid : List Part16) → Walked us (at + 1) mid → Goes (at + 1) n mid) → Goes at (suc n) done
+  after_short : (n at : ℕ) (done : List ℕ) → Taken us at done → at < length us → get_or us at 0 < 0x800
+      → ((mid : List ℕ) → Taken us (at + 1) mid → Goes (at + 1) n mid) → Goes at (suc n) done
   after_short n at done w room l more =
       let u = get_or us at 0 in
-      let first = scalar_of_unit us at room (units at) (λ a b. absurd (omega arith)) in
-      let mid = step_walked us at done u 1 w first (sym (ap length (one_unit u (units at)))) in
-      let written = step_written us at done u 1 w first ∙ ap (λ xs. flat_map utf8_of_part16 done ++ xs) (short_bytes (get_or us (at - 1) 0) u l) in
+      let first = unit_begins us at room (units at) (λ a b. absurd (omega arith)) in
+      let mid = taken_push us done at u 1 w first (sym (ap length (one_unit u (units at)))) in
+      let written = flat_map_push encode_utf8 done u ∙ ap (λ xs. flat_map encode_utf8 done ++ xs) (short_bytes (get_or us (at - 1) 0) u l) in
       goes_one at n done _ written (more _ mid)
 
-  after_pair : (n at : ℕ) (done : List Part16) → Walked us at done → at + 1 < length us → IsPair (get_or us at 0) (get_or us (at + 1) 0)
-      → ((mid : List Part16) → Walked us (at + 1 + 1) mid → Goes (at + 1 + 1) n mid) → Goes at (suc (suc n)) done
+  after_pair : (n at : ℕ) (done : List ℕ) → Taken us at done → at + 1 < length us → IsPair (get_or us at 0) (get_or us (at + 1) 0)
+      → ((mid : List ℕ) → Taken us (at + 1 + 1) mid → Goes (at + 1 + 1) n mid) → Goes at (suc (suc n)) done
   after_pair n at done w room pair more =
       let u = get_or us at 0 in
       let v = get_or us (at + 1) 0 in
       let c = surrogate_pair_char u v in
-      let first = scalar_of_two us at room pair in
-      let mid = step_walked us at done c 2 w first (sym (ap length (two_units c (omega arith)))) in
+      let first = pair_begins us at room pair in
+      let mid = taken_push us done at c 2 w first (sym (ap length (two_units c (omega arith)))) in
       let before : at ≡ at + 1 - 1 = omega arith in
       let place : at + 2 ≡ at + 1 + 1 = omega arith in
-      let written = step_written us at done c 2 w first ∙ ap (λ xs. flat_map utf8_of_part16 done ++ xs)
+      let written = flat_map_push encode_utf8 done c ∙ ap (λ xs. flat_map encode_utf8 done ++ xs)
       (pair_bytes (get_or us (at - 1) 0) u v pair ∙ ap (λ k. half_bytes (get_or us (at - 1) 0) u ++ half_bytes (get_or us k 0) v) before) in
-      goes_two at n done _ written (more _ (subst (λ k. Walked us k (done ++ first.part ∷ [])) place mid))
+      goes_two at n done _ written (more _ (subst (λ k. Taken us k (done ++ c ∷ [])) place mid))
 
-  pub goes : (n at : ℕ) (done : List Part16) → Walked us at done → at + n ≤ length us → AreTwoByteOrPaired us at n → Ends at n → Goes at n done
+  pub goes : (n at : ℕ) (done : List ℕ) → Taken us at done → at + n ≤ length us → AreTwoByteOrPaired us at n → Ends at n → Goes at n done
   goes zero at done w room p e = goes_none at done w
   goes (suc zero) at done w room p e = elim (kind (get_or us at 0) (p.each at (omega arith) (omega arith))) [
     | inl l ↦ after_short zero at done w (omega arith) l (λ mid m. goes_none (at + 1) mid m)
@@ -144,7 +145,7 @@ module _ (us : List ℕ) (units : AreCodeUnits us) where
       ]
 
   -- all of sixteen, or all but one that is cut
-  pub goes_block : (n at : ℕ) (done : List Part16) → Walked us at done → at + 16 ≤ length us → AreTwoByteOrPaired us at 16
+  pub goes_block : (n at : ℕ) (done : List ℕ) → Taken us at done → at + 16 ≤ length us → AreTwoByteOrPaired us at 16
       → ((n ≡ 15) × IsHighSurrogate (get_or us (at + 15) 0)) ⊎ ((n ≡ 16) × (IsHighSurrogate (get_or us (at + 15) 0) → ⊥)) → Goes at n done
   goes_block n at done w room p (inl (e, h)) =
       let prefix : AreTwoByteOrPaired us at 15 = record {
@@ -217,6 +218,11 @@ module _ (us : List ℕ) (units : AreCodeUnits us) where
   converts_bmp {old} {new} {read} {written} w =
       record { within = w.within; done = map Character16 (take read us); walked = plain_walked us read units w.within w.plain; placed = plain_written w }
 
+  pub converts_scalars : {old new : List ℕ} {read written : ℕ} → WritesScalars us old new read written → Converts us old new read written
+  converts_scalars w =
+      let (walked, placed) = scalars_walked w in
+      record { within = w.within; done = map Character16 w.scalars; walked = walked; placed = placed }
+
   -- n more units
   pub converts_more : {old new sub : List ℕ} {read written n m : ℕ} → Converts us old new read written
       → IsUtf8OfPrefix (take (length us - read) (drop read us)) n (take m sub)
@@ -273,6 +279,16 @@ module _ (us : List ℕ) (units : AreCodeUnits us) where
       }
 
 module _ (us : List ℕ) (units : AreCodeUnits us) where
+  -- n more units, without an unpaired surrogate
+  pub converts_more_scalars : {old new sub : List ℕ} {read written n m : ℕ} → Converts us old new read written
+      → WritesScalars (take (length us - read) (drop read us)) (take (length new - written) (drop written new)) sub n m
+      → Converts us old (put_mid written (length new - written) new sub) (read + n) (written + m)
+  converts_more_scalars {old} {new} {sub} {read} {written} {n} {m} w v =
+      let rest : AreCodeUnits (drop read us) = λ k. let same = get_or-drop read us k 0 in omega (arith, same, units (read + k)) in
+      let left : AreCodeUnits (take (length us - read) (drop read us)) = subst AreCodeUnits (sym (take_rest us read)) rest in
+      let whole = converts_whole _ left (converts_scalars _ left v) in
+      converts_more us units w whole.prefix whole.unchanged_after whole.within
+
   -- the same of units that are what is left
   pub converts_paid_from : {rest old new sub : List ℕ} {read written s n m : ℕ} → rest ≡ take (length us - read) (drop read us)
       → SpillsBmp us old new read written s → s ≤ m → ConvertsPrefix rest (take (length new - written) (drop written new)) sub n m

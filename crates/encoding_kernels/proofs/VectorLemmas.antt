@@ -80,6 +80,10 @@ copied_after at n m xs ys first second within room is then =
 pub HasLanes_load : (at n : ℕ) (xs : List ℕ) → at + n ≤ length xs → HasLanes n (chunk at n xs) (λ k. get_or xs (at + k) 0)
 HasLanes_load at n xs room = record { long = length-chunk at n xs room; each = λ k l. get_or-chunk at n xs k 0 l }
 
+-- a vector that was loaded
+pub HasLanes_loaded : (at n : ℕ) (xs lanes : List ℕ) → at + n ≤ length xs → lanes ≡ chunk at n xs → HasLanes n lanes (λ k. get_or xs (at + k) 0)
+HasLanes_loaded at n xs lanes room is = subst (λ ys. HasLanes n ys (λ k. get_or xs (at + k) 0)) (sym is) (HasLanes_load at n xs room)
+
 pub HasLanes-splat : (n x : ℕ) → HasLanes n (replicate n x) (λ _. x)
 HasLanes-splat n x = record { long = length-replicate n x; each = λ k l. get_or-replicate n k x 0 l }
 

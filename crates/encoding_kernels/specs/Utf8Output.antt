@@ -1,5 +1,9 @@
 -- What steps of the conversion from UTF-16 to UTF-8 write, and what they change after it.
-use Rattle.std.specs.Prelude.{◌≡◌, ℕ, ◌+◌, ◌*◌, ◌<◌, ◌≤◌, List, ◌++◌, encode_utf8_all, slice_index, length, take, drop}
+use Rattle.std.specs.Prelude.{◌≡◌, ℕ, ◌+◌, ◌*◌, ◌<◌, ◌≤◌, List, ◌++◌, true, encode_utf8, encode_utf8_all, slice_index, length, take, drop}
+use Rattle.std.specs.Char.{IsScalar}
+use Rattle.std.specs.Char.Escape.{encode_utf16}
+use Rattle.std.specs.List.{flat_map}
+use Rattle.std.specs.Str.{all_scalars}
 use Rattle.encoding_definitions.specs.Prefixes.{WritesPrefix}
 use Rattle.encoding_definitions.specs.Utf16.{IsUtf8OfPrefix}
 
@@ -50,3 +54,17 @@ pub record WritesBmp (us old new : List ℕ) (read count : ℕ) : Type 0 where
   pub within : read ≤ length us
   pub plain : AreBmpScalars (take read us)
   pub written : WritesPrefix old new count (encode_utf8_all (take read us))
+
+-- the first `read` code units are the UTF-16 of scalar values, whose UTF-8 is written at the start
+pub record WritesScalars (us old new : List ℕ) (read count : ℕ) : Type 0 where
+  pub within : read ≤ length us
+  pub scalars : List ℕ
+  pub are_scalars : all_scalars scalars ≡ true
+  pub taken : flat_map encode_utf16 scalars ≡ take read us
+  pub written : WritesPrefix old new count (flat_map encode_utf8 scalars)
+
+-- the code units from the index on begin with a character
+pub record IsCharacterAt (us : List ℕ) (at scalar : ℕ) : Type 0 where
+  pub is_scalar : IsScalar scalar
+  pub rest : List ℕ
+  pub begins : drop at us ≡ encode_utf16 scalar ++ rest

@@ -1,5 +1,5 @@
 -- The bytes of one more code unit.
-use Rattle.std.proofs.Common.{◌≡◌, ℕ, zero, suc, ◌+◌, ◌*◌, ◌<◌, ◌≤◌, Bool, true, false, ◌/◌, ◌%◌, inl, inr, List, [], ◌∷◌, ◌++◌, length, take, drop, get_or, set, slice_index, refl, sym, ap, ◌∙◌, arith, append_assoc, subst, encode_utf8, encode_utf8_all}
+use Rattle.std.proofs.Common.{◌≡◌, ℕ, zero, suc, ◌+◌, ◌*◌, ◌<◌, ◌≤◌, Bool, true, false, ◌/◌, ◌%◌, inl, inr, List, [], ◌∷◌, ◌++◌, length, take, drop, get_or, set, slice_index, refl, sym, ap, ◌∙◌, arith, append_assoc, subst, encode_utf8}
 use Rattle.std.specs.Str.{IsAscii, all_scalars}
 use Rattle.std.proofs.lemmas.Bool.{cases_lt}
 use Rattle.std.proofs.lemmas.List.{get_or-take, get_or-drop, get_or_past, length-drop, length-take, take_more}
@@ -9,16 +9,14 @@ use Rattle.encoding_definitions.proofs.PrefixesLemmas.{WritesPrefix_push, Writes
 use Rattle.encoding_text.specs.declared.utf_16.ByteOrder.{ByteOrder}
 use Rattle.encoding_text.specs.declared.utf_16.ByteOrder.TheVariants.{LittleEndian, BigEndian}
 use Rattle.encoding_kernels.specs.Scans.{BelowUpTo}
-use Rattle.encoding_kernels.proofs.UnitBytesLemmas.{length-units_of, unit_at_is, units_of-fit}
-use Rattle.encoding_kernels.specs.Utf8Output.{AreBmpScalars, WritesBmp}
-use Rattle.encoding_kernels.proofs.ScanLemmas.{Each-take}
+use Rattle.encoding_kernels.proofs.UnitBytesLemmas.{length-units_of, unit_at_is, units_of-drop}
+use Rattle.encoding_kernels.specs.Utf8Output.{IsCharacterAt, WritesScalars}
 use Rattle.encoding_definitions.specs.Utf16.{AreCodeUnits}
 use Rattle.std.specs.Char.{IsScalar}
 use Rattle.std.specs.Char.Escape.{encode_utf16}
 use Rattle.std.specs.List.{flat_map}
-use Rattle.std.proofs.lemmas.Bool.{and_from}
-use Rattle.std.proofs.lemmas.Bool.Decides.{nat_tests}
 use Rattle.std.proofs.str.Utf16.{one_unit}
+use Rattle.encoding_definitions.proofs.Utf16Lemmas.{halves}
 use Rattle.encoding_kernels.proofs.UpToSurrogateLemmas.{written_within}
 use Rattle.encoding_kernels.specs.UnitBytes.{unit_of, units_of}
 use Rattle.encoding_text.specs.Utf16Bytes.{unit_bytes, utf16_bytes}
@@ -132,72 +130,55 @@ next_beyond order big is src r unit rest e stops = at order is e
         let is = unit_at_is big src r size ∙ ap (λ x. unit_of x (get_or src (2 * r) 0) (get_or src (2 * r + 1) 0)) (sym b) in
         omega (arith, stops size, is, low, high)
 
--- ---- code units that are no surrogates: each is a scalar value, one code unit in UTF-16
-bmp_scalar : (c : ℕ) → c < 0x10000 → ((0xD800 ≤ c) × (c ≤ 0xDFFF) → ⊥) → IsScalar c
-bmp_scalar c l p = grind (arith, nat_tests)
-
-bmp_scalars : (cs : List ℕ) → AreCodeUnits cs → AreBmpScalars cs → all_scalars cs ≡ true
-bmp_scalars [] a p = refl
-bmp_scalars (c ∷ cs) a p = and_from _ _ (bmp_scalar c (a 0) (p 0)) (bmp_scalars cs (λ k. a (suc k)) (λ k. p (suc k)))
-
-units_same : (cs : List ℕ) → AreCodeUnits cs → flat_map encode_utf16 cs ≡ cs
-units_same [] a = refl
-units_same (c ∷ cs) a = λ i. one_unit c (a 0) i ++ units_same cs (λ k. a (suc k)) i
-
-bytes_same : (cs : List ℕ) → encode_utf8_all cs ≡ flat_map encode_utf8 cs
-bytes_same [] = refl
-bytes_same (c ∷ cs) = ap (λ xs. encode_utf8 c ++ xs) (bytes_same cs)
-
+-- ---- characters
 module _ (order : ByteOrder) (big : Bool) (is : is_big order ≡ big) (src : List ℕ) (fit : (k : ℕ) → slice_index src k < 256) where
   -- the first r code units are converted
-  pub converted_scalars : {old new : List ℕ} {r written : ℕ} → WritesBmp (units_of big src) old new r written
-      → (scalars : List ℕ) × (all_scalars scalars ≡ true) × (2 * r ≡ 2 * length scalars)
-      × (utf16_bytes order (flat_map encode_utf16 scalars) ≡ take (2 * r) src) × WritesPrefix old new written (flat_map encode_utf8 scalars)
-  converted_scalars {old} {new} {r} {written} w =
-      let us = units_of big src in
-      let within : r ≤ length us = w.within in
-      let units : AreCodeUnits (take r us) = Each-take (λ u. u < 0x10000) (omega arith) us r (λ k _. units_of-fit big src fit k) in
-      let long : 2 * r ≡ 2 * length (take r us) = omega (arith, within, length-take r us) in (
-        take r us,
-        bmp_scalars (take r us) units w.plain,
-        long,
-        ap (utf16_bytes order) (units_same (take r us) units) ∙ spelled_by order big is src r (omega (arith, within, length-units_of big src)) fit,
-        WritesPrefix-same _ _ _ _ _ _ w.written refl (bytes_same (take r us)),
-      )
+  pub converted_scalars : {old new : List ℕ} {r written : ℕ} → WritesScalars (units_of big src) old new r written
+      → (scalars : List ℕ) × (all_scalars scalars ≡ true) × (utf16_bytes order (flat_map encode_utf16 scalars) ≡ take (2 * r) src)
+      × WritesPrefix old new written (flat_map encode_utf8 scalars)
+  converted_scalars {old} {new} {r} {written} w = (
+    w.scalars,
+    w.are_scalars,
+    ap (utf16_bytes order) w.taken ∙ spelled_by order big is src r (omega (arith, w.within, length-units_of big src)) fit,
+    w.written,
+  )
 
--- the next code unit
-pub next_unit : (order : ByteOrder) (big : Bool) → is_big order ≡ big → (src : List ℕ) (r unit : ℕ) (rest : List ℕ) → unit < 0x10000
-    → drop (2 * r) src ≡ unit_bytes order unit ++ rest → (2 * r + 2 ≤ length src) × (slice_index (units_of big src) r ≡ unit)
-next_unit order big is src r unit rest small e = at order is e
+-- the code units of the bytes of code units
+units_back : (order : ByteOrder) (us rest : List ℕ) → AreCodeUnits us
+    → units_of (is_big order) (utf16_bytes order us ++ rest) ≡ us ++ units_of (is_big order) rest
+units_back order [] rest a = refl
+units_back LittleEndian (u ∷ us) rest a =
+    let small : u < 0x10000 = a zero in
+    let same : u % 256 + 0x100 * (u / 256 % 256) ≡ u = omega arith in
+    (λ i. same i ∷ units_back LittleEndian us rest (λ k. a (suc k)) i)
+units_back BigEndian (u ∷ us) rest a =
+    let small : u < 0x10000 = a zero in
+    let same : 0x100 * (u / 256 % 256) + u % 256 ≡ u = omega arith in
+    (λ i. same i ∷ units_back BigEndian us rest (λ k. a (suc k)) i)
+
+-- a scalar value has one code unit or two
+units_of_scalar : (c : ℕ) → IsScalar c → AreCodeUnits (encode_utf16 c)
+units_of_scalar c s = elim (cases_lt c 0x10000) [
+  | inl l ↦ subst AreCodeUnits (sym (one_unit c l)) (one c l)
+  | inr l ↦ let two = halves c l s in
+      subst AreCodeUnits (sym two.3) (both two.0 two.1 (omega (arith, two.2.1)) (omega (arith, two.2.3)))
+]
   where
-    here : (bs : List ℕ) → drop (2 * r) src ≡ bs → (k : ℕ) → get_or src (2 * r + k) 0 ≡ get_or bs k 0
-    here bs f k = sym (get_or-drop (2 * r) src k 0) ∙ ap (λ xs. get_or xs k 0) f
+    one : (u : ℕ) → u < 0x10000 → AreCodeUnits (u ∷ [])
+    one u l zero = l
+    one u l (suc k) = omega arith
 
-    first : 2 * r ≡ 2 * r + 0
-    first = omega arith
+    both : (u v : ℕ) → u < 0x10000 → v < 0x10000 → AreCodeUnits (u ∷ v ∷ [])
+    both u v l m zero = l
+    both u v l m (suc zero) = m
+    both u v l m (suc (suc k)) = omega arith
 
-    at : (order : ByteOrder) → is_big order ≡ big → drop (2 * r) src ≡ unit_bytes order unit ++ rest
-        → (2 * r + 2 ≤ length src) × (slice_index (units_of big src) r ≡ unit)
-    at LittleEndian b f =
-        let size : 2 * r + 2 ≤ length src = omega (arith, ap length f, length-drop (2 * r) src) in
-        let low : get_or src (2 * r) 0 ≡ unit % 256 = ap (λ k. get_or src k 0) first ∙ here _ f 0 in
-        let high : get_or src (2 * r + 1) 0 ≡ unit / 256 % 256 = here _ f 1 in
-        let is = unit_at_is big src r size ∙ ap (λ x. unit_of x (get_or src (2 * r) 0) (get_or src (2 * r + 1) 0)) (sym b) in
-        (size, omega (arith, small, is, low, high))
-    at BigEndian b f =
-        let size : 2 * r + 2 ≤ length src = omega (arith, ap length f, length-drop (2 * r) src) in
-        let high : get_or src (2 * r) 0 ≡ unit / 256 % 256 = ap (λ k. get_or src k 0) first ∙ here _ f 0 in
-        let low : get_or src (2 * r + 1) 0 ≡ unit % 256 = here _ f 1 in
-        let is = unit_at_is big src r size ∙ ap (λ x. unit_of x (get_or src (2 * r) 0) (get_or src (2 * r + 1) 0)) (sym b) in
-        (size, omega (arith, small, is, low, high))
-
--- what stops the code units stops the scalar values
+-- what stops the code units stops the bytes
 pub next_scalar : (order : ByteOrder) (big : Bool) → is_big order ≡ big → (src old : List ℕ) (r written : ℕ)
-    → (r < length (units_of big src) → IsScalar (slice_index (units_of big src) r)
-    → length old < written + length (encode_utf8 (slice_index (units_of big src) r)))
-    → (scalar : ℕ) (rest : List ℕ) → IsScalar scalar → scalar < 0x10000 → drop (2 * r) src ≡ unit_bytes order scalar ++ rest
+    → ((scalar : ℕ) → IsCharacterAt (units_of big src) r scalar → length old < written + length (encode_utf8 scalar))
+    → (scalar : ℕ) (rest : List ℕ) → IsScalar scalar → drop (2 * r) src ≡ utf16_bytes order (encode_utf16 scalar) ++ rest
     → length old < written + length (encode_utf8 scalar)
-next_scalar order big is src old r written stops scalar rest s small e =
-    let next = next_unit order big is src r scalar rest small e in
-    subst (λ u. length old < written + length (encode_utf8 u)) next.1
-    (stops (omega (arith, next.0, length-units_of big src)) (subst IsScalar (sym next.1) s))
+next_scalar order big is src old r written stops scalar rest s e =
+    let back = subst (λ b. units_of b (utf16_bytes order (encode_utf16 scalar) ++ rest) ≡ encode_utf16 scalar ++ units_of b rest) is
+    (units_back order (encode_utf16 scalar) rest (units_of_scalar scalar s)) in
+    stops scalar (record { is_scalar = s; rest = units_of big rest; begins = sym (units_of-drop big r src) ∙ ap (units_of big) e ∙ back })

@@ -3,6 +3,7 @@
 
 ghost use Rattle.std.specs.Prelude.{◌≡◌, ℕ, ◌+◌, ◌*◌, ◌/◌, ◌++◌, ◌<◌, ◌≤◌, true, List, length, min, take, drop, encode_utf8};
 ghost use Rattle.std.specs.Char.{IsScalar};
+ghost use Rattle.std.specs.Char.Escape.{encode_utf16};
 ghost use Rattle.std.specs.List.{flat_map};
 ghost use Rattle.std.specs.Str.{IsAscii, all_scalars};
 ghost use Rattle.encoding_definitions.specs.Prefixes.{WritesPrefix};
@@ -10,7 +11,7 @@ ghost use Rattle.encoding_text.specs.Utf16Bytes.{bytes_of_scalars, unit_bytes, u
 
 use encoding_kernels::utf16::bytes::copy_ascii_units;
 use encoding_kernels::utf16::source::UnitBytes;
-use encoding_kernels::utf16_to_utf8::bytes::convert_up_to_surrogate;
+use encoding_kernels::utf16_to_utf8::bytes::convert_up_to_unpaired;
 
 /// The order of the two bytes of a code unit.
 #[derive(Clone, Copy, Debug, PartialEq, Eq, Drop)]
@@ -76,30 +77,30 @@ pub fn copy_utf16_bytes_to_ascii(order: ByteOrder, src: &[u8], dst: &mut [u8]) -
     }
 }
 
-/// Converts UTF-16LE or UTF-16BE to UTF-8, up to the first character that doesn't fit into `dst`, the first surrogate, paired or
-/// not, or the last byte of an odd number. Returns how many bytes it read and how many bytes it wrote.
-pub fn convert_utf16_bytes_to_utf8_up_to_surrogate(
+/// Converts the first characters of UTF-16LE or UTF-16BE to UTF-8, up to the first that doesn't fit into `dst`, an unpaired surrogate,
+/// or a character that the end of `src` cuts: a high surrogate or half a code unit. Returns how many bytes it read and how many
+/// bytes it wrote. Encoding Standard, section 14.2, shared UTF-16 decoder.
+pub fn convert_utf16_bytes_to_utf8_up_to_invalid(
     order: ByteOrder,
     src: &[u8],
     dst: &mut [u8],
 ) -> (usize, usize)
     ensures read { result.0 ≤ length src.now }
     ensures converted { (scalars : List ℕ) × (all_scalars scalars ≡ true)
-        × (result.0 ≡ 2 * length scalars)
         × (bytes_of_scalars order scalars ≡ take result.0 src.now)
         × WritesPrefix dst.old dst.new result.1 (flat_map encode_utf8 scalars) }
-    ensures stops { (scalar : ℕ) (rest : List ℕ) → IsScalar scalar → scalar < 0x10000
-        → drop result.0 src.now ≡ unit_bytes order scalar ++ rest
+    ensures stops { (scalar : ℕ) (rest : List ℕ) → IsScalar scalar
+        → drop result.0 src.now ≡ utf16_bytes order (encode_utf16 scalar) ++ rest
         → length dst.old < result.1 + length (encode_utf8 scalar) }
 {
     let (pairs, _) = src.as_chunks::<2>();
     match order {
         ByteOrder::LittleEndian => {
-            let (units, written) = convert_up_to_surrogate(UnitBytes::<false> { pairs }, dst);
+            let (units, written) = convert_up_to_unpaired(UnitBytes::<false> { pairs }, dst);
             (2 * units, written)
         }
         ByteOrder::BigEndian => {
-            let (units, written) = convert_up_to_surrogate(UnitBytes::<true> { pairs }, dst);
+            let (units, written) = convert_up_to_unpaired(UnitBytes::<true> { pairs }, dst);
             (2 * units, written)
         }
     }

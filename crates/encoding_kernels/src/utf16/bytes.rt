@@ -61,6 +61,19 @@ pub(super) fn sixteen_units(big: bool, src: &[u8], at: usize) -> u16x16
     (units << u16x16::splat(8)) + (units >> u16x16::splat(8))
 }
 
+/// Returns the eight code units from index `at` on.
+#[inline(always)]
+pub(super) fn eight_units(big: bool, src: &[u8], at: usize) -> u16x8
+    requires { 2 * at + 16 ≤ length src.now }
+    ensures { result ≡ take 8 (drop at (units_of big src.now)) }
+{
+    let units = u16x8::from_le_bytes(u8x16::from_slice(&src[2 * at..]));
+    if !big {
+        return units;
+    }
+    (units << u16x8::splat(8)) + (units >> u16x8::splat(8))
+}
+
 /// Returns the code unit at index `at`.
 #[inline(always)]
 pub(super) fn unit_at(big: bool, src: &[u8], at: usize) -> u16

@@ -4,7 +4,9 @@
 ghost use Rattle.std.specs.Prelude.{◌≡◌, ◌+◌, ◌-◌, ◌<◌, ◌≤◌, ℕ, List, length, take, drop, slice_index};
 ghost use Rattle.encoding_definitions.specs.Utf16.{AreCodeUnits};
 
-use super::bytes::{count_units, first_sixteen, first_units, sixteen_units, skip_units, unit_at};
+use super::bytes::{
+    count_units, eight_units, first_sixteen, first_units, sixteen_units, skip_units, unit_at,
+};
 use crate::simd::width::STRIDE;
 use std::simd::prelude::*;
 
@@ -26,6 +28,11 @@ pub trait CodeUnits: Copy {
     fn sixteen(self, at: usize) -> u16x16
         requires { at + 16 ≤ length (units self) }
         ensures { result ≡ take 16 (drop at (units self)) };
+
+    /// Returns the eight code units from index `at` on.
+    fn eight(self, at: usize) -> u16x8
+        requires { at + 8 ≤ length (units self) }
+        ensures { result ≡ take 8 (drop at (units self)) };
 
     /// Returns the first sixteen code units, followed by zeros if there are fewer.
     fn first_sixteen(self) -> u16x16
@@ -74,6 +81,11 @@ impl<'a> CodeUnits for Units<'a> {
     #[inline(always)]
     fn sixteen(self, at: usize) -> u16x16 {
         u16x16::from_slice(&self.src[at..])
+    }
+
+    #[inline(always)]
+    fn eight(self, at: usize) -> u16x8 {
+        u16x8::from_slice(&self.src[at..])
     }
 
     #[inline(always)]
@@ -126,6 +138,11 @@ impl<'a, const BIG: bool> CodeUnits for UnitBytes<'a, BIG> {
     #[inline(always)]
     fn sixteen(self, at: usize) -> u16x16 {
         sixteen_units(BIG, self.pairs.as_flattened(), at)
+    }
+
+    #[inline(always)]
+    fn eight(self, at: usize) -> u16x8 {
+        eight_units(BIG, self.pairs.as_flattened(), at)
     }
 
     #[inline(always)]

@@ -1,15 +1,16 @@
-//! UTF-16LE and UTF-16BE to UTF-8 up to the first surrogate, without a copy of the code units.
+//! UTF-16LE and UTF-16BE to UTF-8 up to the first unpaired surrogate, without a copy of the code units.
 
-ghost use Rattle.std.specs.Prelude.{◌≡◌, ◌+◌, ◌*◌, ◌<◌, ◌≤◌, ◌⊎◌, length, take, slice_index, encode_utf8};
-ghost use Rattle.std.specs.Char.{IsScalar};
-ghost use Rattle.encoding_definitions.specs.Prefixes.{WritesPrefix};
-ghost use Rattle.encoding_kernels.specs.Scans.{BelowUpTo};
+ghost use Rattle.std.specs.Prelude.{ℕ, ◌+◌, ◌<◌, length, encode_utf8, IsTrue, IfSome, IfNone};
 ghost use Rattle.encoding_kernels.specs.UnitBytes.{bytes_in, units_of};
-ghost use Rattle.encoding_kernels.specs.Utf8Output.{WritesBmp};
+ghost use Rattle.encoding_kernels.specs.Utf8Output.{IsCharacterAt, WritesBmp, WritesScalars};
 
-use super::text::convert_blocks;
-use crate::scalar::{is_surrogate, utf8_length, write_scalar};
-use crate::simd::width::BASIC_LATIN_END;
+use super::kinds::MOST_BYTES;
+use super::text::{convert_blocks, convert_paired_blocks};
+use crate::scalar::{
+    is_high_surrogate, is_low_surrogate, is_surrogate, pair_scalar, utf8_length, utf16_length,
+    write_scalar,
+};
+use crate::simd::width::{BASIC_LATIN_END, HALF_STRIDE, STRIDE};
 use crate::utf16::bytes::copy_ascii_units;
 use crate::utf16::source::{CodeUnits, UnitBytes};
 
@@ -49,29 +50,97 @@ fn convert_ascii_and_blocks<const BIG: bool>(
     }
 }
 
-/// Converts the first code units of `src` to UTF-8, up to the first that is a surrogate or doesn't fit into `dst`. Returns how
-/// many code units it read and how many bytes it wrote. The rest of `dst` is unchanged.
-pub fn convert_up_to_surrogate<const BIG: bool>(
+/// Converts ASCII and blocks of other code units from the start of `src`, and then blocks with surrogate pairs if one is next.
+/// Returns how many code units it read, how many bytes it wrote, and whether to go on with the next ones at once. If not, a
+/// single character stopped the blocks, or the end of `src` or `dst` is near.
+#[inline(always)]
+fn convert_blocks_and_pairs<const BIG: bool>(
+    src: UnitBytes<'_, BIG>,
+    dst: &mut [u8],
+) -> (usize, usize, bool)
+    ensures converted { WritesScalars (units_of BIG (bytes_in src.entry.pairs.now)) dst.old dst.new
+        result.0 result.1 }
+    ensures progress { IsTrue result.2 → 0 < result.0 }
+{
+    let (read, written) = convert_ascii_and_blocks(src, dst);
+    if read == src.count() || !is_high_surrogate(src.unit_at(read)) {
+        return (read, written, false);
+    }
+    let (units, bytes) = convert_paired_blocks(src.skip(read), &mut dst[written..]);
+    (read + units, written + bytes, units > 0)
+}
+
+/// Returns the scalar value of the character at index `at`, or `None` if an unpaired surrogate is there. A high surrogate at the end
+/// is unpaired.
+#[inline(always)]
+fn character_at<S: CodeUnits>(src: S, at: usize) -> Option<u32>
+    requires { at < length (S.units src) }
+    ensures character { IfSome result (λ scalar. IsCharacterAt (S.units src) at scalar) }
+    ensures none { IfNone result ((scalar : ℕ) → IsCharacterAt (S.units src) at scalar → ⊥) }
+{
+    let unit = src.unit_at(at);
+    if !is_surrogate(unit) {
+        return Some(u32::from(unit));
+    }
+    if is_high_surrogate(unit) && src.count() - at > 1 {
+        let next = src.unit_at(at + 1);
+        if is_low_surrogate(next) {
+            return Some(pair_scalar(unit, next));
+        }
+    }
+    None
+}
+
+/// Returns how many characters to convert one at a time before trying blocks again, if `left` code units are left and `room`
+/// bytes: the one that stopped the blocks, or several where no block is possible.
+#[inline(always)]
+fn single_characters(left: usize, room: usize) -> usize
+    ensures { 0 < result }
+{
+    if left < HALF_STRIDE || room < MOST_BYTES {
+        STRIDE
+    } else {
+        1
+    }
+}
+
+/// Converts the first characters of `src` to UTF-8, up to the first that doesn't fit into `dst`, an unpaired surrogate, or a high
+/// surrogate at the end. Returns how many code units it read and how many bytes it wrote. The rest of `dst` is unchanged.
+pub fn convert_up_to_unpaired<const BIG: bool>(
     src: UnitBytes<'_, BIG>,
     dst: &mut [u8],
 ) -> (usize, usize)
-    ensures converted { WritesBmp (units_of BIG (bytes_in src.entry.pairs.now)) dst.old dst.new
+    ensures converted { WritesScalars (units_of BIG (bytes_in src.entry.pairs.now)) dst.old dst.new
         result.0 result.1 }
-    ensures stops { result.0 < length (units_of BIG (bytes_in src.entry.pairs.now))
-        → IsScalar (slice_index (units_of BIG (bytes_in src.entry.pairs.now)) result.0)
-        → length dst.old < result.1
-        + length (encode_utf8
-        (slice_index (units_of BIG (bytes_in src.entry.pairs.now)) result.0)) }
+    ensures stops { (scalar : ℕ)
+        → IsCharacterAt (units_of BIG (bytes_in src.entry.pairs.now)) result.0 scalar
+        → length dst.old < result.1 + length (encode_utf8 scalar) }
 {
-    let (mut read, mut written) = convert_ascii_and_blocks(src, dst);
+    let mut read = 0;
+    let mut written = 0;
+    let mut singles = 0;
     while read < src.count() {
-        let unit = src.unit_at(read);
-        let scalar = u32::from(unit);
-        if is_surrogate(unit) || utf8_length(scalar) > dst.len() - written {
-            break;
+        if singles == 0 {
+            let (units, bytes, goes_on) = convert_blocks_and_pairs(
+                src.skip(read),
+                &mut dst[written..],
+            );
+            read += units;
+            written += bytes;
+            if !goes_on {
+                singles = single_characters(src.count() - read, dst.len() - written);
+            }
+        } else {
+            let Some(scalar) = character_at(src, read) else {
+                break;
+            };
+            if utf8_length(scalar) > dst.len() - written {
+                break;
+            }
+            written += write_scalar(scalar, &mut dst[written..]);
+            read += utf16_length(scalar);
+            singles -= 1;
         }
-        written += write_scalar(scalar, &mut dst[written..]);
-        read += 1;
     }
     (read, written)
 }

@@ -2,25 +2,27 @@
 
 ghost use Rattle.std.specs.Prelude.{◌≡◌, ℕ, ◌+◌, ◌*◌, ◌<◌, ◌≤◌, ◌++◌, length, take, drop, slice_index, IsTrue, nat_le, map, ◌⊎◌};
 ghost use Rattle.std.specs.Simd.Lanes.{mask_l};
-ghost use Rattle.encoding_definitions.specs.Utf16.{IsHighSurrogate};
+ghost use Rattle.encoding_definitions.specs.Utf16.{AreCodeUnits, IsHighSurrogate};
 ghost use Rattle.encoding_kernels.specs.SurrogatePairs.{AreTwoByteOrPaired, IsTwoByteOrHalf, EncodesHalf, half_bytes, concatenated, halves_from};
 
 use crate::scalar::{is_high_surrogate, is_low_surrogate};
 use crate::simd::compress::{keep_pairs, write_both};
+use crate::utf16::source::CodeUnits;
 use std::simd::prelude::*;
 
 /// Returns whether each of the sixteen code units from `at` on is below U+0800 or a half of a pair. The last pair may
 /// be cut.
 #[inline(always)]
-pub(super) fn are_two_byte_or_paired(src: &[u16], at: usize) -> bool
-    requires { at + 17 ≤ length src.now }
-    ensures { IsTrue result → AreTwoByteOrPaired src.now at 16 }
+pub(super) fn are_two_byte_or_paired<S: CodeUnits>(src: S, at: usize) -> bool
+    requires within { (at + 17 ≤ length (S.units src)) × (at + 17 ≤ usize.MAX) }
+    requires code_units { AreCodeUnits (S.units src) }
+    ensures { IsTrue result → AreTwoByteOrPaired (S.units src) at 16 }
 {
-    if is_low_surrogate(src[at]) {
+    if is_low_surrogate(src.unit_at(at)) {
         return false;
     }
-    let units = u16x16::from_slice(&src[at..]);
-    let next = u16x16::from_slice(&src[at + 1..]);
+    let units = src.sixteen(at);
+    let next = src.sixteen(at + 1);
     let high = (units & u16x16::splat(0xFC00)).simd_eq(u16x16::splat(0xD800));
     let low = (next & u16x16::splat(0xFC00)).simd_eq(u16x16::splat(0xDC00));
     let halves = (units & u16x16::splat(0xF800)).simd_eq(u16x16::splat(0xD800));
@@ -76,36 +78,41 @@ fn encode_halves(units: u16x8, before: u16x8) -> (u8x16, usize)
 
 /// Returns 1 if the code unit at `at` is a high surrogate, and else 0.
 #[inline(always)]
-fn cut_halves(src: &[u16], at: usize) -> usize
-    requires { at < length src.now }
-    ensures { ((result ≡ 1) × IsHighSurrogate (slice_index src.now at))
-        ⊎ ((result ≡ 0) × (IsHighSurrogate (slice_index src.now at) → ⊥)) }
+fn cut_halves<S: CodeUnits>(src: S, at: usize) -> usize
+    requires { at < length (S.units src) }
+    ensures { ((result ≡ 1) × IsHighSurrogate (slice_index (S.units src) at))
+        ⊎ ((result ≡ 0) × (IsHighSurrogate (slice_index (S.units src) at) → ⊥)) }
 {
-    if is_high_surrogate(src[at]) { 1 } else { 0 }
+    if is_high_surrogate(src.unit_at(at)) {
+        1
+    } else {
+        0
+    }
 }
 
 /// Writes the UTF-8 of sixteen code units below U+0800 or in pairs, or of fifteen if the last is a high surrogate.
 /// Returns how many code units and how many bytes these are. The rest of `dst` is unchanged.
 #[inline(always)]
-pub(super) fn write_two_byte_or_paired(
-    src: &[u16],
+pub(super) fn write_two_byte_or_paired<S: CodeUnits>(
+    src: S,
     at: usize,
     dst: &mut [u8],
     to: usize,
 ) -> (usize, usize)
-    requires dst_length { (at + 16 ≤ length src.now) × (to + 32 ≤ length dst.old) }
-    requires paired { AreTwoByteOrPaired src.now at 16 }
-    ensures units { ((result.0 ≡ 15) × IsHighSurrogate (slice_index src.now (at + 15)))
-        ⊎ ((result.0 ≡ 16) × (IsHighSurrogate (slice_index src.now (at + 15)) → ⊥)) }
-    ensures out_length { result.1 ≡ length (halves_from src.now at result.0) }
+    requires dst_length { (at + 16 ≤ length (S.units src)) × (to + 32 ≤ length dst.old) }
+    requires end { at + 16 ≤ usize.MAX }
+    requires paired { AreTwoByteOrPaired (S.units src) at 16 }
+    ensures units { ((result.0 ≡ 15) × IsHighSurrogate (slice_index (S.units src) (at + 15)))
+        ⊎ ((result.0 ≡ 16) × (IsHighSurrogate (slice_index (S.units src) (at + 15)) → ⊥)) }
+    ensures out_length { result.1 ≡ length (halves_from (S.units src) at result.0) }
     ensures length_bound { result.1 ≤ 32 }
     ensures written { dst.new ≡ take to dst.old
-        ++ (halves_from src.now at result.0 ++ drop (to + result.1) dst.old) }
+        ++ (halves_from (S.units src) at result.0 ++ drop (to + result.1) dst.old) }
 {
-    let first = u16x8::from_slice(&src[at..]);
-    let second = u16x8::from_slice(&src[at + 8..]);
+    let first = src.eight(at);
+    let second = src.eight(at + 8);
     let (bytes, count) = encode_halves(first, first.swizzle([0, 0, 1, 2, 3, 4, 5, 6]));
-    let (other, more) = encode_halves(second, u16x8::from_slice(&src[at + 7..]));
+    let (other, more) = encode_halves(second, src.eight(at + 7));
     let cut = cut_halves(src, at + 15);
     let rest = more - 2 * cut;
     write_both(dst, to, bytes, count, other, rest);

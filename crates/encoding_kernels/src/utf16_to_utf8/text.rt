@@ -4,14 +4,14 @@
 ghost use Rattle.std.specs.Prelude.{◌≡◌, ◌↔◌, ◌+◌, ◌*◌, ◌<◌, ◌≤◌, length, take, IsTrue};
 ghost use Rattle.encoding_definitions.specs.Prefixes.{WritesPrefix};
 ghost use Rattle.encoding_definitions.specs.Utf16.{IsUtf8OfPrefix};
-ghost use Rattle.encoding_kernels.specs.Utf8Output.{ConvertsDue, ConvertsPrefix, WritesBmp};
+ghost use Rattle.encoding_kernels.specs.Utf8Output.{ConvertsDue, ConvertsPrefix, WritesBmp, WritesScalars};
 
 use super::kinds::{Ascii, Mixed, ThreeByte, TwoByte, convert_run, convert_spilling_run};
 use super::mixed::SPILL;
 use super::pairs::{are_two_byte_or_paired, write_two_byte_or_paired};
 use super::tail::{convert_first_sixteen, convert_spilled};
+use super::two_byte::are_two_byte;
 use crate::scalar::is_surrogate;
-use crate::simd::units::are_units_below;
 use crate::simd::width::{BASIC_LATIN_END, HALF_STRIDE, STRIDE};
 use crate::tuning::{ASCII_RUN, MIXED_RUN, TWO_BYTE_RUN};
 use crate::utf16::source::CodeUnits;
@@ -195,18 +195,17 @@ pub fn convert_blocks<S: CodeUnits, const RESTORES: bool>(src: S, dst: &mut [u8]
 }
 
 /// Converts blocks of code units from the start of `src` while they have surrogate pairs and their other units are
-/// below U+0800. Returns how many code units it read and how many bytes it wrote. The rest of `dst` is unchanged.
+/// below U+0800. Returns how many code units it read and how many bytes it wrote: no pair is cut, and no surrogate is unpaired.
+/// The rest of `dst` is unchanged.
 #[inline(never)]
-pub fn convert_paired_blocks(src: &[u16], dst: &mut [u8]) -> (usize, usize)
-    ensures prefix { IsUtf8OfPrefix src.now result.0 (take result.1 dst.new) }
-    ensures unchanged_after { WritesPrefix dst.old dst.new result.1 (take result.1 dst.new) }
-    ensures within { result.0 ≤ length src.now }
+pub fn convert_paired_blocks<S: CodeUnits>(src: S, dst: &mut [u8]) -> (usize, usize)
+    ensures { WritesScalars (S.units src) dst.old dst.new result.0 result.1 }
 {
     let mut read = 0;
     let mut written = 0;
-    while src.len() - read > STRIDE
+    while src.count() - read > STRIDE
         && dst.len() - written >= 32
-        && !are_units_below::<16>(src, read, 0x800)
+        && !are_two_byte(src.sixteen(read))
         && are_two_byte_or_paired(src, read)
     {
         let (units, bytes) = write_two_byte_or_paired(src, read, dst, written);

@@ -88,7 +88,8 @@ fn convert_prefix_and_blocks(src: &[u16], dst: &mut [u8]) -> (usize, usize, bool
     if !is_pair(src, read) {
         return (read, written, false);
     }
-    let (paired, extra) = convert_paired_blocks(&src[read..], &mut dst[written..]);
+    let left = Units { src: &src[read..] };
+    let (paired, extra) = convert_paired_blocks(left, &mut dst[written..]);
     (read + paired, written + extra, paired > 0)
 }
 

@@ -1,7 +1,7 @@
 use Rattle.std.proofs.Common.{arith, rules}
 use Rattle.encoding_definitions.specs.Utf16.{AreCodeUnits}
 use Rattle.encoding_kernels.proofs.OverwriteLemmas.{ascii_plain}
-use Rattle.encoding_kernels.proofs.Utf16ToUtf8Lemmas.{converts_bmp, converts_more, converts_prefix, converts_unchanged}
+use Rattle.encoding_kernels.proofs.Utf16ToUtf8Lemmas.{converts_bmp, converts_more, converts_more_scalars, converts_prefix, converts_unchanged}
 use Rattle.encoding_text.proofs.utf_8.from_utf16.convert_prefix_and_blocks.Goals as goal
 
 pub returns-then-src-read-lt-BASIC_LATIN_END : goal.returns-then-src-read-lt-BASIC_LATIN_END
@@ -30,5 +30,5 @@ returns c =
     let next = c.convert_blocks-units.ensures in
     let last = c.convert_paired_blocks-paired.ensures in
     let some = converts_more us units (converts_bmp us units (ascii_plain call.within.0 call.ascii call.copied)) next.prefix next.unchanged_after next.within in
-    let all = converts_more us units some last.prefix last.unchanged_after last.within in
+    let all = converts_more_scalars us units some last in
     record { prefix = converts_prefix us units all; unchanged_after = converts_unchanged us units all; within = all.within; progress = search rules }
