@@ -55,7 +55,7 @@
  * - The constants `UTF8_DATA` and `ASCII_MASK`.
  * - `decode_to_str` and `decode_to_str_without_replacement` of a decoder, and `clear_continuation_bytes`: a destination in
  *   C is bytes, which encoding_text_decoder_decode_to_utf8 and its like fill.
- * - `copy_utf16_bytes_to_ascii` and `convert_utf16_bytes_to_utf8_up_to_surrogate`: a decoder of UTF-16 converts the same bytes.
+ * - `copy_utf16_bytes_to_ascii` and `convert_utf16_bytes_to_utf8_up_to_invalid`: a decoder of UTF-16 converts the same bytes.
  * - The repair of a reader into a writer (`repair`, `Watch`).
  * - The laws, which are theorems.
  */

@@ -319,12 +319,12 @@ units_spelled order src us old new bytes count valid twice e w l =
     ∙ ap (take (2 * valid)) (e ∙ ap (λ n. take n src) twice)
     ∙ take-take (2 * valid) (2 * count) src (omega (arith, less)) ∙ ap (λ n. take (2 * n) src) (sym (ap length prefix ∙ long))
 
--- characters that take one code unit each are read and written
+-- characters are read and written
 pub scalars_advance : (order : ByteOrder) (src : List ℕ) {old new : List ℕ} {read written : ℕ} → read ≤ length src
-    → (scalars : List ℕ) × (all_scalars scalars ≡ true) × (read ≡ 2 * length scalars)
+    → (scalars : List ℕ) × (all_scalars scalars ≡ true)
     × (utf16_bytes order (flat_map encode_utf16 scalars) ≡ take read src) × WritesPrefix old new written (flat_map encode_utf8 scalars)
     → Advances order encode_utf8 [] src old new read written []
-scalars_advance order src within (scalars, are, count, spelled, writes) = record {
+scalars_advance order src within (scalars, are, spelled, writes) = record {
   scalars = scalars;
   are_scalars = are;
   within = within;

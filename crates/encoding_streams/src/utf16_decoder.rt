@@ -14,7 +14,6 @@ ghost use Rattle.encoding_streams.specs.Utf16Parts.{IsPendingUtf16};
 ghost use Rattle.encoding_streams.specs.Utf16Decoding.{DecodeUtf16StepInto, SufficesReplacingUtf16, max_utf16_length_from_utf16, max_utf8_length_from_utf16};
 ghost use Rattle.encoding_streams.specs.Utf16Steps.{Advances, BeginsTooLong, Resumes};
 
-use blocks::convert_units;
 use code_unit::CodeUnit;
 use encoding_text::decoder::DecoderResult;
 use encoding_text::utf_16::ByteOrder;
@@ -207,7 +206,7 @@ fn decode<U: CodeUnit>(
     }
 }
 
-/// Converts as `convert_units` does if nothing is pending, and otherwise nothing.
+/// Converts as `CodeUnit::convert` does if nothing is pending, and otherwise nothing.
 #[inline(always)]
 fn convert_neutral<U: CodeUnit>(
     order: ByteOrder,
@@ -224,7 +223,7 @@ fn convert_neutral<U: CodeUnit>(
     if !pending.is_empty() {
         return (0, 0, false);
     }
-    convert_units(order, src, dst)
+    U::convert(order, src, dst)
 }
 
 /// Decodes the pending bytes and the first bytes of `src`. Returns what ended the call, or `None` if it wrote

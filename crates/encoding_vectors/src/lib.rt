@@ -55,7 +55,7 @@ mod surrogate_rows;
 #[cfg(test)]
 mod texts;
 #[cfg(test)]
-mod up_to_surrogate_rows;
+mod up_to_invalid_rows;
 #[cfg(test)]
 mod utf16_byte_rows;
 #[cfg(test)]

@@ -1,7 +1,7 @@
 use Rattle.std.proofs.Common.{◌≡◌, ◌≤◌, ◌++◌, length, drop, min, refl, ap, sym, arith}
 use Rattle.std.proofs.lemmas.List.{length-take, length-take-le}
 use Rattle.encoding_streams.proofs.Utf16WriteLemmas.{writes_all, writes_utf16}
-use Rattle.encoding_streams.proofs.utf16_decoder.code_unit.U16CodeUnit.write.Goals as goal
+use Rattle.encoding_streams.proofs.utf16_decoder.blocks.write_units.Goals as goal
 
 pub returns-then-units-dst : goal.returns-then-units-dst
 returns-then-units-dst c =
