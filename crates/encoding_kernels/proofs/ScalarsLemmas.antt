@@ -85,7 +85,8 @@ scalars_more {us} {rest} {old} {new} {sub} {read} {written} {n} {m} e w v =
       scalars = w.scalars ++ v.scalars;
       are_scalars = scalars-append w.scalars v.scalars w.are_scalars v.are_scalars;
       taken = flat_map-append encode_utf16 w.scalars v.scalars ∙ (λ i. w.taken i ++ (v.taken ∙ ap (take n) left) i) ∙ sym (take-add read n us);
-      written = WritesPrefix-same _ _ _ _ _ _ (WritesPrefix_after _ _ _ _ _ _ _ w.written v.written) refl (sym (flat_map-append encode_utf8 w.scalars v.scalars));
+      written = WritesPrefix-same _ _ _ _ _ _ (WritesPrefix_after _ _ _ _ _ _ _ w.written v.written) refl
+          (sym (flat_map-append encode_utf8 w.scalars v.scalars));
     }
 
 -- one more

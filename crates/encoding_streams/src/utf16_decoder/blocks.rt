@@ -32,7 +32,8 @@ pub(super) fn convert_by_length(
     src: &[u8],
     dst: &mut [u16],
 ) -> (usize, usize, bool)
-    ensures characters { Advances order encode_utf16 [] src.now dst.old dst.new result.0 result.1 [] }
+    ensures characters { Advances order encode_utf16 [] src.now dst.old dst.new
+        result.0 result.1 [] }
     ensures full { IsTrue result.2 → BeginsTooLong order encode_utf16 (drop result.0 src.now)
         (length dst.old - result.1) }
 {
@@ -58,7 +59,8 @@ fn convert_blocks<const N: usize>(
     dst: &mut [u16],
 ) -> (usize, usize, bool)
     requires block { N ≤ 4096 }
-    ensures characters { Advances order encode_utf16 [] src.now dst.old dst.new result.0 result.1 [] }
+    ensures characters { Advances order encode_utf16 [] src.now dst.old dst.new
+        result.0 result.1 [] }
     ensures full { IsTrue result.2 → BeginsTooLong order encode_utf16 (drop result.0 src.now)
         (length dst.old - result.1) }
 {
@@ -97,7 +99,8 @@ fn convert_block(
     units: &mut [u16],
     dst: &mut [u16],
 ) -> (usize, usize, bool)
-    ensures characters { Advances order encode_utf16 [] src.now dst.old dst.new result.0 result.1 [] }
+    ensures characters { Advances order encode_utf16 [] src.now dst.old dst.new
+        result.0 result.1 [] }
     ensures full { IsTrue result.2 → BeginsTooLong order encode_utf16 (drop result.0 src.now)
         (length dst.old - result.1) }
 {

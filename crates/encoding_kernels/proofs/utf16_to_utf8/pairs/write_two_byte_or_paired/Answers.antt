@@ -6,11 +6,13 @@ use Rattle.encoding_kernels.proofs.utf16_to_utf8.pairs.write_two_byte_or_paired.
 
 pub encode_halves-count-requires : goal.encode_halves-count-requires
 encode_halves-count-requires g c k l =
-    subst IsTwoByteOrHalf (sym (ap (λ xs. get_or xs k 0) c.eight-first.ensures ∙ get_or-chunk c.args.at 8 (g.S.CodeUnits.units c.args.src) k 0 l)) (c.requires.paired.each (c.args.at + k) (omega arith) (omega arith))
+    subst IsTwoByteOrHalf (sym (ap (λ xs. get_or xs k 0) c.eight-first.ensures ∙ get_or-chunk c.args.at 8 (g.S.CodeUnits.units c.args.src) k 0 l))
+    (c.requires.paired.each (c.args.at + k) (omega arith) (omega arith))
 
 pub encode_halves-more-requires : goal.encode_halves-more-requires
 encode_halves-more-requires g c k l =
-    subst IsTwoByteOrHalf (sym (ap (λ xs. get_or xs k 0) c.eight-second.ensures ∙ get_or-chunk (c.args.at + 8) 8 (g.S.CodeUnits.units c.args.src) k 0 l)) (c.requires.paired.each (c.args.at + 8 + k) (omega arith) (omega arith))
+    subst IsTwoByteOrHalf (sym (ap (λ xs. get_or xs k 0) c.eight-second.ensures ∙ get_or-chunk (c.args.at + 8) 8 (g.S.CodeUnits.units c.args.src) k 0 l))
+    (c.requires.paired.each (c.args.at + 8 + k) (omega arith) (omega arith))
 
 pub returns : goal.returns
 returns g c =
