@@ -149,10 +149,10 @@ pub fn is_utf8_bidi(buffer: &[u8]) -> bool
     loop {
         // first by whole blocks: the ASCII, and a piece after it
         let prefix = ascii_valid_up_to_by_length::<BLOCK, 0, true>(rest);
-        rest = &rest[prefix..];
-        if rest.is_empty() {
+        if prefix == rest.len() {
             return false;
         }
+        rest = &rest[prefix..];
         let valid = utf8_valid_up_to(&rest[..VALIDATED_PIECE.min(rest.len())]);
         if is_text_bidi(&rest[..valid]) {
             return true;

@@ -36,27 +36,28 @@ after_piece bs all n most k same prefix piece none =
 empty_clear : (bs : List ℕ) → length bs ≡ 0 → IsBidiBytes bs → ⊥
 empty_clear bs none = clear_none bs 0 (omega (arith, none)) (ascii_text bs 0 (omega arith) (λ k l. absurd (omega (arith, l))))
 
-pub returns-then-is_empty : goal.returns-then-is_empty
-returns-then-is_empty c =
-    let same = after_ascii _ _ _ c.loop-rest.invariant c.ascii_valid_up_to_by_length-prefix.ensures in
-    (λ e. absurd (cc), λ b. absurd (empty_clear _ (eqb-true _ _ (sym c.is_empty.ensures ∙ c.if-is_empty.true)) (same.1 b)))
+pub returns-then-prefix-rest : goal.returns-then-prefix-rest
+returns-then-prefix-rest c =
+    let prefix = c.ascii_valid_up_to_by_length-prefix.ensures in
+    let clear = ascii_text _ _ prefix.within (below_prefix _ _ prefix) in
+    (λ e. absurd (cc), λ b. absurd (clear_none c.loop-rest.rest.now _ (omega arith) clear (c.loop-rest.invariant.1 b)))
 
 pub returns-then-is_text_bidi : goal.returns-then-is_text_bidi
 returns-then-is_text_bidi c =
     let same = after_ascii _ _ _ c.loop-rest.invariant c.ascii_valid_up_to_by_length-prefix.ensures in
     (λ _. same.0 (found_in_bytes _ 0 _ (omega arith) IsUtf8-nil ((c.if-is_text_bidi.ensures {u = tt}).0 refl)), λ _. refl)
 
-pub returns-then-is_empty-2 : goal.returns-then-is_empty-2
-returns-then-is_empty-2 c =
+pub returns-then-is_empty : goal.returns-then-is_empty
+returns-then-is_empty c =
     let same = after_piece _ _ _ _ _ c.loop-rest.invariant c.ascii_valid_up_to_by_length-prefix.ensures c.utf8_valid_up_to-valid.ensures
     (λ b. let e = (c.if-is_text_bidi.ensures {u = tt}).1 b in cc) in
-    (λ e. absurd (cc), λ b. absurd (empty_clear _ (eqb-true _ _ (sym c.is_empty-in-loop-rest.ensures ∙ c.if-is_empty-2.true)) (same.1 b)))
+    (λ e. absurd (cc), λ b. absurd (empty_clear _ (eqb-true _ _ (sym c.is_empty.ensures ∙ c.if-is_empty.true)) (same.1 b)))
 
 pub returns-in_default : goal.returns-in_default
 returns-in_default c =
     let same = after_piece _ _ _ _ _ c.loop-rest.invariant c.ascii_valid_up_to_by_length-prefix.ensures c.utf8_valid_up_to-valid.ensures
     (λ b. let e = (c.if-is_text_bidi.ensures {u = tt}).1 b in cc) in
-    let some = eqb-false _ _ (sym c.is_empty-in-loop-rest.ensures ∙ c.if-is_empty-2.false) in
+    let some = eqb-false _ _ (sym c.is_empty.ensures ∙ c.if-is_empty.false) in
     (λ _. same.0 (inl (rejected_no_text _ 0 (omega (arith, some)) IsUtf8-nil c.in_default.ensures.no_character)), λ _. refl)
 
 pub returns-then-is_right_to_left : goal.returns-then-is_right_to_left
