@@ -21,6 +21,9 @@ fn copy_ascii<const BIG: bool>(src: UnitBytes<'_, BIG>, dst: &mut [u8]) -> usize
         result result }
 {
     let count = src.count().min(dst.len());
+    if count == 0 || src.unit_at(0) >= BASIC_LATIN_END {
+        return 0;
+    }
     copy_ascii_units(BIG, src.pairs.as_flattened(), &mut dst[..count])
 }
 
@@ -91,21 +94,22 @@ fn character_at<S: CodeUnits>(src: S, at: usize) -> Option<u32>
     None
 }
 
-/// Returns how many characters to convert one at a time before trying blocks again, if `left` code units are left and `room`
-/// bytes: the one that stopped the blocks, or several where no block is possible.
+/// Returns how many characters to convert one at a time before trying blocks: all if fewer than eight units are left, and
+/// otherwise `others`.
 #[inline(always)]
-fn single_characters(left: usize, room: usize) -> usize
-    ensures { 0 < result }
+fn single_characters(left: usize, others: usize) -> usize
+    ensures { 0 < others → 0 < result }
 {
-    if left < HALF_STRIDE || room < MOST_BYTES {
-        STRIDE
+    if left < HALF_STRIDE {
+        HALF_STRIDE
     } else {
-        1
+        others
     }
 }
 
 /// Converts the first characters of `src` to UTF-8, up to the first that doesn't fit into `dst`, an unpaired surrogate, or a high
 /// surrogate at the end. Returns how many code units it read and how many bytes it wrote. The rest of `dst` is unchanged.
+#[inline(never)]
 pub fn convert_up_to_unpaired<const BIG: bool>(
     src: UnitBytes<'_, BIG>,
     dst: &mut [u8],
@@ -118,7 +122,7 @@ pub fn convert_up_to_unpaired<const BIG: bool>(
 {
     let mut read = 0;
     let mut written = 0;
-    let mut singles = 0;
+    let mut singles = single_characters(src.count(), 0);
     while read < src.count() {
         if singles == 0 {
             let (units, bytes, goes_on) = convert_blocks_and_pairs(
@@ -128,7 +132,13 @@ pub fn convert_up_to_unpaired<const BIG: bool>(
             read += units;
             written += bytes;
             if !goes_on {
-                singles = single_characters(src.count() - read, dst.len() - written);
+                // the one that stopped the blocks, or several where no block fits into the rest of `dst`
+                let others = if dst.len() - written < MOST_BYTES {
+                    STRIDE
+                } else {
+                    1
+                };
+                singles = single_characters(src.count() - read, others);
             }
         } else {
             let Some(scalar) = character_at(src, read) else {
