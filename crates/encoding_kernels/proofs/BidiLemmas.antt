@@ -203,16 +203,6 @@ place_of_bidi bs b = subst (λ xs. (k : ℕ) × (k < length xs) × RtlAt xs k) b
 abbrev pub IsLeftToRight : List ℕ → Type 0
 IsLeftToRight bs = IsUtf8 bs × (IsBidiText bs → ⊥)
 
--- a longer prefix, by the text that follows
-pub left_to_right_more : (bs : List ℕ) (at n : ℕ) → IsLeftToRight (take at bs) → IsLeftToRight (take n (drop at bs)) → IsLeftToRight (take (at + n) bs)
-left_to_right_more bs at n v w = (
-  subst IsUtf8 (sym (take-add at n bs)) (IsUtf8-append (take at bs) (take n (drop at bs)) v.0 w.0),
-  λ b. elim (bidi_either (take at bs) (take n (drop at bs)) v.0 w.0 (subst IsBidiText (take-add at n bs) b)) [
-    | inl a ↦ v.1 a
-    | inr a ↦ w.1 a
-  ],
-)
-
 -- the bytes after such a prefix
 pub clear_whole : (bs : List ℕ) (n : ℕ) → n ≤ length bs → IsLeftToRight (take n bs) → IsBidiBytes (drop n bs) → IsBidiBytes bs
 clear_whole bs n l v (inl ill) = inl (λ u. ill (rest_text bs n u l v.0))

@@ -93,11 +93,6 @@ units_of-chunks big bs =
     ap (units_of big) (joined_firsts 2 half bs ∙ ap (λ n. take n bs) twice) ∙ units_of-take big half bs
     ∙ take_all half (units_of big bs) (omega (arith, length-units_of big bs))
 
--- what is left after n code units
-pub units_of-rest : (big : Bool) (n : ℕ) (bs : List ℕ) → 2 * n ≤ length bs
-    → units_of big (take (length bs - 2 * n) (drop (2 * n) bs)) ≡ take (length (units_of big bs) - n) (drop n (units_of big bs))
-units_of-rest big n bs l = ap (units_of big) (take_rest bs (2 * n)) ∙ units_of-drop big n bs ∙ sym (take_rest (units_of big bs) n)
-
 -- fewer than sixteen code units, with zeros after them
 module _ (big : Bool) (bs part zeros lanes : List ℕ) (n : ℕ) (is : n ≡ length bs / 2) (few : n < 16) (same : part ≡ take (2 * n) bs)
     (rest : length zeros ≡ 32 - 2 * n) (loaded : lanes ≡ take 16 (units_of big (part ++ zeros))) where

@@ -8,7 +8,7 @@ use std::marker::Model;
 #[derive(Drop)]
 pub(crate) struct Pending {
     bytes: [u8; 4],
-    count: usize,
+    count: u8,
 }
 
 impl Model for Pending {
@@ -42,7 +42,10 @@ impl Pending {
         let count = held.len();
         let mut bytes = [0; 4];
         bytes[..count].copy_from_slice(held);
-        Pending { bytes, count }
+        Pending {
+            bytes,
+            count: count as u8,
+        }
     }
 
     /// Returns whether there are none.
@@ -57,7 +60,7 @@ impl Pending {
         ensures length { result ≡ length self.now }
         ensures within { result ≤ 3 }
     {
-        self.count
+        usize::from(self.count)
     }
 
     /// Returns an array that starts with these bytes, and how many they are.
@@ -66,7 +69,7 @@ impl Pending {
         ensures count { result.1 ≡ length self.now }
         ensures within { result.1 ≤ 3 }
     {
-        (self.bytes, self.count)
+        (self.bytes, self.len())
     }
 
     /// Returns the first four bytes of these bytes and `src`, and how many they are, if fewer.
@@ -74,10 +77,10 @@ impl Pending {
         ensures count { result.1 ≡ min 4 (length self.now + length src.now) }
         ensures bytes { take result.1 result.0 ≡ take 4 (self.now ++ src.now) }
     {
-        let more = src.len().min(WINDOW - self.count);
         let mut bytes = self.bytes;
-        let end = self.count + more;
-        bytes[self.count..end].copy_from_slice(&src[..more]);
+        let more = src.len().min(WINDOW - self.len());
+        let end = self.len() + more;
+        bytes[self.len()..end].copy_from_slice(&src[..more]);
         (bytes, end)
     }
 
