@@ -69,6 +69,13 @@ prefix_of_first_units xs n k within prefix l =
     ascii_prefix_at xs k (omega arith) (λ i p. subst (λ b. b < 0x80) (same i (omega arith)) (below_prefix (take n xs) k prefix i p))
     (subst (λ b. 0x80 ≤ b) (same k l) (ascii_stops (take n xs) k prefix (omega (arith, length-take-le n xs within))))
 
+-- the run of ASCII in all of the bytes
+pub prefix_of : (xs : List ℕ) (run : ℕ) → IsRunBelow 0x80 xs 0 (length xs) run → IsLongestPrefix IsAscii xs run
+prefix_of xs run r =
+    let e : 0 + run ≡ run = omega arith in
+    prefix_before (λ b. b < 0x80) (omega arith) xs run r.within (λ k p. r.pass k (omega arith) (omega arith))
+    (λ l low. r.stops l (subst (λ j. slice_index xs j < 0x80) (sym e) low))
+
 -- the ASCII prefix of a block that isn't all ASCII
 pub first_run : (xs : List ℕ) (run : ℕ) → 64 ≤ length xs → IsRunBelow 0x80 xs 0 64 run → (AllBelow 0x80 xs 0 64 → ⊥) → IsLongestPrefix IsAscii xs run
 first_run xs run long r stops = elim (cases_lt run 64) [

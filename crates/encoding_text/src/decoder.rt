@@ -235,7 +235,15 @@ fn decode_neutral<U: CodeUnit>(
     if dst.len() - written < U::MAX_UNITS {
         return (DecoderResult::OutputFull, read, written);
     }
-    let (result, more) = pending.end_before(&src[read..], last);
+    let rest = &src[read..];
+    if let Some(First::Malformed(length)) = First::of_two(rest) {
+        return (
+            DecoderResult::Malformed(length as u8, 0),
+            read + length,
+            written,
+        );
+    }
+    let (result, more) = pending.end_after_two(rest, last);
     (result, read + more, written)
 }
 

@@ -276,6 +276,19 @@ pub fn run_len_below<const N: usize>(bytes: &[u8], at: usize, bound: u8) -> usiz
     run::<N, _>(&BytesBelow { bytes, bound }, at)
 }
 
+/// Returns how many bytes precede the first that isn't below the bound, of at least N and at most 2 * N. Both of two vectors, which may
+/// overlap, are tested, so that no branch depends on the bytes.
+#[inline(always)]
+pub fn run_len_by_two<const N: usize>(bytes: &[u8], bound: u8) -> usize
+    requires { (0 < N) × (N ≤ 64) × (N ≤ length bytes.now) × (length bytes.now ≤ 2 * N) }
+    ensures { IsRunBelow bound bytes.now 0 (length bytes.now) result }
+{
+    let last = bytes.len() - N;
+    let first = run_len_below::<N>(bytes, 0, bound);
+    let second = run_len_below::<N>(bytes, last, bound);
+    if first < N { first } else { last + second }
+}
+
 /// Returns the length of the longest prefix of bytes below `bound`. Checks the first vector separately, since most
 /// prefixes end there.
 #[inline(always)]

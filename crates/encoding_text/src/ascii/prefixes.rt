@@ -27,40 +27,36 @@ pub(crate) fn is_short(bytes: &[u8]) -> bool
     pass_short::<TWO_BLOCKS, _>(&BytesBelow { bytes, bound }, bytes.len())
 }
 
-/// Returns the length of the longest ASCII prefix, as `ascii_valid_up_to` does, by vectors of N bytes. The first `KNOWN` bytes are
-/// ASCII, none or N. `ALL` says that nothing else is expected: two vectors test at most 128 bytes at once.
+/// Returns the length of the longest ASCII prefix, as `ascii_valid_up_to` does, by the length of the bytes. The first `KNOWN` bytes
+/// are ASCII, none or a block. `ALL` says that nothing else is expected: two vectors test at most 128 bytes at once.
 ///
-/// One mask finds the end in the first vector: between other characters most prefixes end there. The last vector may overlap the
-/// first, so no byte is left to a loop. Of at most 2 * N bytes both are tested, so that no branch depends on where the prefix ends.
-#[tactic(auto, using(std::proofs::lemmas::Bool::cases_lt, encoding_kernels::proofs::ScanLemmas::prefix_before))]
+/// One mask finds the end in the first block, without a branch that depends on the text: between other characters most prefixes
+/// end there. The last block may overlap the one before it, so no byte is left to a loop.
+#[tactic(auto, using(encoding_kernels::proofs::ScanLemmas::prefix_before))]
 #[inline(always)]
-pub(crate) fn ascii_valid_up_to_by_length<const N: usize, const KNOWN: usize, const ALL: bool>(
+pub(crate) fn ascii_valid_up_to_by_length<const KNOWN: usize, const ALL: bool>(
     bytes: &[u8],
 ) -> usize
-    requires width { (16 ≤ N) × (N ≤ 64) }
     requires known { (KNOWN ≤ length bytes.now) × BelowUpTo ASCII_END bytes.now KNOWN }
     ensures { IsLongestPrefix IsAscii bytes.now result }
 {
     if ALL && bytes.len() <= TWO_BLOCKS && is_short(bytes) {
         return bytes.len();
     }
-    if KNOWN < N && bytes.len() < N {
-        return prefix_len_below(bytes, ASCII_END);
-    }
-    let first = if KNOWN < N {
-        run_len_below::<N>(bytes, 0, ASCII_END)
-    } else {
-        N
-    };
-    if bytes.len() > 2 * N {
-        if first < N {
+    if KNOWN < BLOCK {
+        if bytes.len() < BLOCK {
+            return prefix_len_below(bytes, ASCII_END);
+        }
+        let first = run_len_below::<BLOCK>(bytes, 0, ASCII_END);
+        if first < BLOCK {
             return first;
         }
+    }
+    if bytes.len() > TWO_BLOCKS {
         return prefix_after_stride(bytes, ASCII_END);
     }
-    let last = bytes.len() - N;
-    let second = run_len_below::<N>(bytes, last, ASCII_END);
-    if first < N { first } else { last + second }
+    let last = bytes.len() - BLOCK;
+    last + run_len_below::<BLOCK>(bytes, last, ASCII_END)
 }
 
 /// Copies the longest ASCII prefix, up to the shorter of the two lengths. Returns the first byte within that length

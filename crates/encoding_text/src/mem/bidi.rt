@@ -17,7 +17,7 @@ use encoding_kernels::bidi::units::{FIRST_UNIT, skip_clear_units};
 use encoding_kernels::scalar::decode_utf8_scalar;
 use encoding_kernels::simd::scan::prefix_len_below;
 use encoding_kernels::simd::units::skip_units_below;
-use encoding_kernels::simd::width::{BLOCK, STRIDE, UNIT_STRIDE};
+use encoding_kernels::simd::width::{STRIDE, UNIT_STRIDE};
 use encoding_kernels::tuning::VALIDATED_PIECE;
 
 /// The first right-to-left scalar value.
@@ -148,7 +148,7 @@ pub fn is_utf8_bidi(buffer: &[u8]) -> bool
     let mut rest = buffer;
     loop {
         // first by whole blocks: the ASCII, and a piece after it
-        let prefix = ascii_valid_up_to_by_length::<BLOCK, 0, true>(rest);
+        let prefix = ascii_valid_up_to_by_length::<0, true>(rest);
         if prefix == rest.len() {
             return false;
         }

@@ -9,7 +9,6 @@ ghost use Rattle.encoding_definitions.specs.Latin1.{IsUtf8Latin1};
 
 use crate::ascii::prefixes::ascii_valid_up_to_by_length;
 use crate::mem::{latin1, utf8_to_latin1};
-use encoding_kernels::simd::width::BLOCK;
 use std::alloc::{AllocError, Global};
 
 /// A text that is borrowed or owned.
@@ -37,7 +36,7 @@ pub enum CowBytes<'a> {
 pub fn decode_latin1<'a>(alloc: Global, bytes: &'a [u8]) -> Result<CowStr<'a>, AllocError>
     ensures { DecodesLatin1 bytes.now result }
 {
-    let prefix = ascii_valid_up_to_by_length::<BLOCK, 0, true>(bytes);
+    let prefix = ascii_valid_up_to_by_length::<0, true>(bytes);
     if prefix == bytes.len() {
         return Ok(CowStr::Borrowed(ascii_text(bytes)));
     }
@@ -52,7 +51,7 @@ pub fn encode_latin1_lossy<'a>(alloc: Global, string: &'a str) -> Result<CowByte
     ensures encoded { EncodesLatin1 string.now result }
 {
     let text = string.as_bytes();
-    let prefix = ascii_valid_up_to_by_length::<BLOCK, 0, true>(text);
+    let prefix = ascii_valid_up_to_by_length::<0, true>(text);
     if prefix == text.len() {
         return Ok(CowBytes::Borrowed(text));
     }

@@ -7,7 +7,7 @@ ghost use Rattle.encoding_kernels.specs.Scans.{BelowUpTo};
 use super::first::{First, character_length};
 use crate::ascii::prefixes::{ascii_valid_up_to_by_length, is_short};
 use encoding_kernels::lengths::{LEAST_FOR_VECTORS, SHORT, TWO_WIDEST_VECTORS};
-use encoding_kernels::simd::scan::run_len_below;
+use encoding_kernels::simd::scan::{run_len_below, run_len_by_two};
 use encoding_kernels::simd::width::{ASCII_END, BLOCK, HALF_BLOCK, STRIDE};
 use encoding_kernels::utf8::validate::{well_formed_blocks, well_formed_short};
 
@@ -23,7 +23,7 @@ fn well_formed_prefix(src: &[u8]) -> usize
         }
         return well_formed_short(src);
     }
-    let ascii = ascii_valid_up_to_by_length::<BLOCK, 0, false>(src);
+    let ascii = ascii_valid_up_to_by_length::<0, false>(src);
     if ascii == src.len() || src.len() < STRIDE {
         return ascii;
     }
@@ -67,9 +67,9 @@ pub(crate) fn valid_up_to_by_vectors<const DAMAGED: bool>(src: &[u8]) -> usize
 {
     if DAMAGED && src.len() >= STRIDE && src[0] < ASCII_END {
         let ascii = if src.len() >= HALF_BLOCK {
-            ascii_valid_up_to_by_length::<HALF_BLOCK, 0, false>(src)
+            run_len_by_two::<HALF_BLOCK>(src, ASCII_END)
         } else {
-            ascii_valid_up_to_by_length::<STRIDE, 0, false>(src)
+            run_len_by_two::<STRIDE>(src, ASCII_END)
         };
         if First::of_two(&src[ascii..]).is_some() {
             return ascii;
@@ -105,7 +105,7 @@ fn long_valid_up_to(src: &[u8]) -> usize
         }
         return valid_after(src, BLOCK);
     }
-    let ascii = ascii_valid_up_to_by_length::<BLOCK, BLOCK, false>(src);
+    let ascii = ascii_valid_up_to_by_length::<BLOCK, false>(src);
     if ascii == src.len() {
         return ascii;
     }

@@ -5,31 +5,31 @@ use Rattle.std.proofs.lemmas.Str.{IsUtf8-from_ascii}
 use Rattle.encoding_definitions.specs.Prefixes.{IsLongestPrefix}
 use Rattle.encoding_definitions.proofs.Utf8Lemmas.{IsLongestPrefix-utf8}
 use Rattle.encoding_text.proofs.FirstLemmas.{shown_none}
-use Rattle.encoding_text.proofs.WholePrefixesLemmas.{ascii_ends, rest_stops}
+use Rattle.encoding_text.proofs.WholePrefixesLemmas.{ascii_ends, prefix_of, rest_stops}
 use Rattle.encoding_text.proofs.utf_8.validate.valid_up_to_by_vectors.Goals as goal
 use Rattle.encoding_text.proofs.utf_8.validate.valid_up_to_by_vectors.Goals.{then-src-ge-HALF_BLOCK, else-src-ge-HALF_BLOCK}
 
 pub of_two-requires-clause-not_empty : goal.of_two-requires-clause-not_empty
 of_two-requires-clause-not_empty g c =
     let prefix : IsLongestPrefix IsAscii c.args.src.now c.if-src-ge-HALF_BLOCK.ascii = elim c.if-src-ge-HALF_BLOCK.branch [
-      | then-src-ge-HALF_BLOCK w ↦ rw w.ascii-is w.ascii_valid_up_to_by_length-ascii.ensures
-      | else-src-ge-HALF_BLOCK w ↦ rw w.ascii-is w.ascii_valid_up_to_by_length-ascii-else-src-ge-HALF_BLOCK.ensures
+      | then-src-ge-HALF_BLOCK w ↦ rw w.ascii-is (prefix_of c.args.src.now _ w.run_len_by_two-ascii.ensures)
+      | else-src-ge-HALF_BLOCK w ↦ rw w.ascii-is (prefix_of c.args.src.now _ w.run_len_by_two-ascii-else-src-ge-HALF_BLOCK.ensures)
     ] in
     (rest_stops _ _ prefix (ascii_ends _ _ prefix c.requires.other)).0
 
 pub of_two-requires-clause-lead : goal.of_two-requires-clause-lead
 of_two-requires-clause-lead g c =
     let prefix : IsLongestPrefix IsAscii c.args.src.now c.if-src-ge-HALF_BLOCK.ascii = elim c.if-src-ge-HALF_BLOCK.branch [
-      | then-src-ge-HALF_BLOCK w ↦ rw w.ascii-is w.ascii_valid_up_to_by_length-ascii.ensures
-      | else-src-ge-HALF_BLOCK w ↦ rw w.ascii-is w.ascii_valid_up_to_by_length-ascii-else-src-ge-HALF_BLOCK.ensures
+      | then-src-ge-HALF_BLOCK w ↦ rw w.ascii-is (prefix_of c.args.src.now _ w.run_len_by_two-ascii.ensures)
+      | else-src-ge-HALF_BLOCK w ↦ rw w.ascii-is (prefix_of c.args.src.now _ w.run_len_by_two-ascii-else-src-ge-HALF_BLOCK.ensures)
     ] in
     (rest_stops _ _ prefix (ascii_ends _ _ prefix c.requires.other)).1
 
 pub returns-then-is_some : goal.returns-then-is_some
 returns-then-is_some g c =
     let prefix : IsLongestPrefix IsAscii c.args.src.now c.if-src-ge-HALF_BLOCK.ascii = elim c.if-src-ge-HALF_BLOCK.branch [
-      | then-src-ge-HALF_BLOCK w ↦ rw w.ascii-is w.ascii_valid_up_to_by_length-ascii.ensures
-      | else-src-ge-HALF_BLOCK w ↦ rw w.ascii-is w.ascii_valid_up_to_by_length-ascii-else-src-ge-HALF_BLOCK.ensures
+      | then-src-ge-HALF_BLOCK w ↦ rw w.ascii-is (prefix_of c.args.src.now _ w.run_len_by_two-ascii.ensures)
+      | else-src-ge-HALF_BLOCK w ↦ rw w.ascii-is (prefix_of c.args.src.now _ w.run_len_by_two-ascii-else-src-ge-HALF_BLOCK.ensures)
     ] in
     IsLongestPrefix-utf8 c.args.src.now _ prefix.within (IsUtf8-from_ascii _ prefix.kind)
     (rw take_rest at (shown_none _ _ c.of_two.ensures.no_character (sym c.is_some.ensures ∙ c.if-is_some.true)))
