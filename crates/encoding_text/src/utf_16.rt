@@ -79,7 +79,7 @@ pub fn copy_utf16_bytes_to_ascii(order: ByteOrder, src: &[u8], dst: &mut [u8]) -
 
 /// Converts the first characters of UTF-16LE or UTF-16BE to UTF-8, up to the first that doesn't fit into `dst`, an unpaired surrogate,
 /// or a character that the end of `src` cuts: a high surrogate or half a code unit. Returns how many bytes it read and how many
-/// bytes it wrote. Encoding Standard, section 14.2, shared UTF-16 decoder.
+/// bytes it wrote. The rest of `dst` is unchanged. Encoding Standard, section 14.2, shared UTF-16 decoder.
 pub fn convert_utf16_bytes_to_utf8_up_to_invalid(
     order: ByteOrder,
     src: &[u8],
