@@ -1,6 +1,6 @@
 -- What is written after the text of first parts, if a write fails in the middle of one, and once the engine wrote all
 -- of the text due.
-use Rattle.std.proofs.Common.{◌≡◌, ℕ, List, [], length, refl, sym, ap, ◌∙◌, arith, subst, ◌+◌, ◌<◌, ◌≤◌, Bool, true, false, ◌∷◌, ◌++◌, take, drop, Option, inl, inr, encode_utf8}
+use Rattle.std.proofs.Common.{◌≡◌, ℕ, List, [], length, refl, sym, ap, ◌∙◌, arith, subst, ◌+◌, ◌<◌, ◌≤◌, Bool, false, ◌∷◌, ◌++◌, take, drop, Option, inl, inr, encode_utf8}
 use Rattle.std.proofs.lemmas.List.{append-nil, take_all, append_assoc, drop_all, length-drop, take-append-drop}
 use Rattle.encoding_definitions.specs.Parts.{Part, StartsWith, ArePartsOf, lossy_utf8, malformed_count}
 use Rattle.encoding_definitions.proofs.DecompositionLemmas.{has_final, parts_split, lossy_utf8-append, StartsWith-append, has_parts, lossy_utf8-characters, malformed_count-append, malformed_count-characters, malformed_count-bytes}
@@ -123,24 +123,23 @@ wrote_piece last bs p src old new now n piece read q w call a =
     wrote_then last bs (p ++ src) (q ++ drop read src) old new now n (malformed_in piece) w
     (record { parts = g.parts; first = g.first; bytes = subst (Appends new now) (sym g.text) a; malformed = sym g.malformed })
 
--- nothing is pending after a piece, and at the end of the input
-nothing_pending : (p src : List ℕ) (last : Bool) (piece : Piece) (read : ℕ) (q : List ℕ) → BorrowedDecodeStep p src last piece read q
-    → last ≡ true → q ≡ []
-nothing_pending p src last (Text t) read q call ended = call.answer.1
-nothing_pending p src last (Char c) read q call ended = call.answer.1
-nothing_pending p src last (Malformed k) read q call ended = call.answer.2
-nothing_pending p src last InputEmpty read q call ended = call.answer.2 ended
+-- nothing is pending after a piece
+pub nothing_pending : (p src : List ℕ) (last : Bool) (piece : Piece) (read : ℕ) (q : List ℕ) → BorrowedDecodeStep p src last piece read q
+    → (piece ≡ InputEmpty → ⊥) → q ≡ []
+nothing_pending p src last (Text t) read q call n = call.answer.1
+nothing_pending p src last (Char c) read q call n = call.answer.1
+nothing_pending p src last (Malformed k) read q call n = call.answer.2
+nothing_pending p src last InputEmpty read q call n = absurd (n refl)
 
--- one more piece is written, if there was one, and no byte follows it
+-- one more piece is written, and no byte follows it
 pub wrote_last : (last : Bool) (bs p src : List ℕ) (old new now : Option (List ℕ)) (n : ℕ) (piece : Piece) (read : ℕ) (q : List ℕ)
     → WritesParts last bs (p ++ src) old new n
-    → BorrowedDecodeStep p src last piece read q → Appends new now (text_of piece) → length src ≤ read
-    → WritesParts last bs q old now (n + malformed_in piece) × IsPending q × (last ≡ true → q ≡ [])
-wrote_last last bs p src old new now n piece read q w call a all =
+    → BorrowedDecodeStep p src last piece read q → (piece ≡ InputEmpty → ⊥) → Appends new now (text_of piece) → length src ≤ read
+    → WritesParts last bs q old now (n + malformed_in piece) × (q ≡ [])
+wrote_last last bs p src old new now n piece read q w call some a all =
     let rest : q ++ drop read src ≡ q = ap (λ xs. q ++ xs) (drop_all read src all) ∙ append-nil q in (
       subst (λ xs. WritesParts last bs xs old now (n + malformed_in piece)) rest (wrote_piece last bs p src old new now n piece read q w call a),
-      call.pending,
-      nothing_pending p src last piece read q call,
+      nothing_pending p src last piece read q call some,
     )
 
 -- a proper prefix of its text is written

@@ -126,7 +126,11 @@ fn write_parts<W: Sink>(
     let mut replaced = 0;
     loop {
         let (piece, read) = decoder.decode_borrowed_raw(rest, last);
+        if let Piece::InputEmpty = piece {
+            return Ok(replaced);
+        }
         replaced += write_piece(writer, piece)?;
+        // after a piece nothing is pending
         if read == rest.len() {
             return Ok(replaced);
         }

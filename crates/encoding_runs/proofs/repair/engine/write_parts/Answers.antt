@@ -1,4 +1,4 @@
-use Rattle.std.proofs.Common.{◌∙◌, arith}
+use Rattle.std.proofs.Common.{◌∙◌, inl, arith}
 use Rattle.std.proofs.lemmas.Result.{err_from_is_err_and}
 use Rattle.std.proofs.lemmas.List.{take_rest, length-append}
 use Rattle.encoding_runs.proofs.RepairLemmas.{wrote_piece, wrote_last, stopped_piece, wrote_count, pending_length}
@@ -8,12 +8,12 @@ pub returns-in_err-replaced-clause-err : goal.returns-in_err-replaced-clause-err
 returns-in_err-replaced-clause-err g c =
     let p = err_from_is_err_and c.from_residual.result c.from_residual.ensures.1 in
     let e = c.in_err-replaced.ensures.err in
-    rw (p.1, p.2) (e.0, e.1, stopped_piece _ _ _ _ _ _ _ _ _ _ _ _ c.loop-replaced.invariant.wrote c.decode_borrowed_raw-read.ensures e.3 e.4)
+    rw (p.1, p.2) (e.0, e.1, stopped_piece _ _ _ _ _ _ _ _ _ _ _ _ c.loop-writer.invariant.wrote c.decode_borrowed_raw-read.ensures e.3 e.4)
 
 pub overflow_add-replaced : goal.overflow_add-replaced
 overflow_add-replaced g c =
     let e = c.in_ok-replaced.ensures.ok in
-    let wrote = wrote_piece _ _ _ _ _ _ _ _ _ _ _ c.loop-replaced.invariant.wrote c.decode_borrowed_raw-read.ensures e.1 in
+    let wrote = wrote_piece _ _ _ _ _ _ _ _ _ _ _ c.loop-writer.invariant.wrote c.decode_borrowed_raw-read.ensures e.1 in
     omega (
       arith,
       wrote_count _ _ _ _ _ _ wrote,
@@ -24,17 +24,18 @@ overflow_add-replaced g c =
       c.well_formed.1.0.0,
     )
 
-pub loop-replaced-preserved : goal.loop-replaced-preserved
-loop-replaced-preserved g c =
+pub loop-writer-preserved : goal.loop-writer-preserved
+loop-writer-preserved g c =
     let e = c.in_ok-replaced.ensures.ok in
-    rw (e.0, take_rest c.loop-replaced.rest.now c.decode_borrowed_raw-read.result.1) (record {
-      wrote = wrote_piece _ _ _ _ _ _ _ _ _ _ _ c.loop-replaced.invariant.wrote c.decode_borrowed_raw-read.ensures e.1;
-      failed = e.2 ∙ c.loop-replaced.invariant.failed;
-      keeps = g.met.W.Sink.keeps_on _ _ _ c.loop-replaced.invariant.keeps c.in_ok-replaced.ensures.keeps;
+    rw (e.0, take_rest c.loop-writer.rest.now c.decode_borrowed_raw-read.result.1) (record {
+      wrote = wrote_piece _ _ _ _ _ _ _ _ _ _ _ c.loop-writer.invariant.wrote c.decode_borrowed_raw-read.ensures e.1;
+      failed = e.2 ∙ c.loop-writer.invariant.failed;
+      keeps = g.met.W.Sink.keeps_on _ _ _ c.loop-writer.invariant.keeps c.in_ok-replaced.ensures.keeps;
     })
 
 pub returns-then-read-rest-clause-ok : goal.returns-then-read-rest-clause-ok
 returns-then-read-rest-clause-ok g c =
     let e = c.in_ok-replaced.ensures.ok in
-    let wrote = wrote_last _ _ _ _ _ _ _ _ _ _ _ c.loop-replaced.invariant.wrote c.decode_borrowed_raw-read.ensures e.1 (omega arith) in
-    rw e.0 (wrote.0, wrote.1, wrote.2, e.2 ∙ c.loop-replaced.invariant.failed)
+    let wrote =
+    wrote_last _ _ _ _ _ _ _ _ _ _ _ c.loop-writer.invariant.wrote c.decode_borrowed_raw-read.ensures c.in_default.not-InputEmpty e.1 (omega arith) in
+    rw e.0 (wrote.0, inl wrote.1, λ l. wrote.1, e.2 ∙ c.loop-writer.invariant.failed)
