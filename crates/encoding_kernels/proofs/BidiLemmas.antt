@@ -1,6 +1,6 @@
 -- Indices of bytes at which there are right-to-left characters: a text with one has such an index, and the first three
 -- bytes show if there is none. And code units that aren't right-to-left, by ranges that hold all those that are.
-use Rattle.std.proofs.Common.{◌≡◌, ℕ, ◌+◌, ◌/◌, ◌%◌, ◌<◌, ◌≤◌, inl, inr, List, [], ◌∷◌, ◌++◌, length, take, drop, slice_index, encode_utf8, encode_utf8_all, IsUtf8, refl, sym, ap, ◌∙◌, arith, subst, take-add, Bool, true, false, cond, ◌&&◌, leb, ltb, eqb, bit_or, ◌^◌, ◌⊎◌, ◌||◌}
+use Rattle.std.proofs.Common.{◌≡◌, ℕ, ◌+◌, ◌/◌, ◌%◌, ◌<◌, ◌≤◌, inl, inr, List, [], ◌∷◌, ◌++◌, length, take, drop, slice_index, encode_utf8, encode_utf8_all, IsUtf8, refl, sym, ap, ◌∙◌, arith, subst, Bool, true, false, cond, ◌&&◌, leb, ltb, eqb, bit_or, ◌^◌, ◌⊎◌, ◌||◌}
 use Rattle.std.specs.Prelude.{Any, nat_eq}
 use Rattle.std.specs.Str.{all_scalars}
 use Rattle.std.proofs.str.Laws.{two, three, four, both}

@@ -1,6 +1,6 @@
 -- Code units of bytes: each by its index, eight or sixteen as a vector, and the bytes of code units.
 use Rattle.std.proofs.Common.{take-add, ◌≡◌, ℕ, zero, suc, ◌+◌, ◌-◌, ◌*◌, ◌/◌, ◌%◌, ◌^◌, ◌<◌, ◌≤◌, Bool, true, false, List, [], ◌∷◌, ◌++◌, length, take, drop, get_or, refl, set, map, bit_and, bit_or, inl, inr, sym, ap, ◌∙◌, arith, replicate}
-use Rattle.std.proofs.lemmas.List.{get_or-take, get_or-drop, length-drop, length-map, length-take-le, get_or-map, take_more, take_rest, take_all, take_at, take-take, length-append, drop_at, drop-drop, take-append-drop}
+use Rattle.std.proofs.lemmas.List.{get_or-take, get_or-drop, length-drop, length-map, length-take-le, get_or-map, take_more, take_all, take_at, take-take, length-append, drop_at, drop-drop, take-append-drop}
 use Rattle.std.proofs.Math.Seq.{drop-nil}
 use Rattle.std.proofs.lemmas.Grind.{same_number_lists}
 use Rattle.std.proofs.lemmas.Bool.{cases_lt, false≢true}

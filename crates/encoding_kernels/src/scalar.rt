@@ -48,16 +48,6 @@ pub fn is_continuation(byte: u8) -> bool
     byte & 0xC0 == 0x80
 }
 
-/// Returns whether `lead` begins several bytes and `second` is a continuation byte. Uses one test, since on random
-/// bytes a branch for each costs more.
-#[inline(always)]
-pub fn is_lead_with_continuation(lead: u8, second: u8) -> bool
-    ensures { IsTrue result ↔ IsIncomplete (lead ∷ []) × IsContinuation second }
-{
-    let mask = u8::from(begins_several(lead)) * 0xC0;
-    second & mask == 0x80
-}
-
 /// Returns the length of the sequences that begin with the byte.
 pub fn sequence_length(lead: u8) -> usize
     ensures { (rest : List ℕ) → IsSequence (lead ∷ rest) → result ≡ 1 + length rest }

@@ -1,5 +1,8 @@
 -- What bytes begin with, by the bytes of a sequence one after another.
-use Rattle.std.proofs.Common.{◌≡◌, ℕ, ◌+◌, ◌<◌, ◌≤◌, inl, inr, Bool, true, false, Option, Some, None, List, [], ◌∷◌, ◌++◌, length, take, drop, slice_index, refl, sym, ap, ◌∙◌, arith, subst}
+use Rattle.std.proofs.Common.{◌≡◌, ℕ, ◌+◌, ◌*◌, ◌/◌, ◌<◌, ◌≤◌, ◌↔◌, IsTrue, bit_and, true≢false, inl, inr, Bool, true, false, Option, Some, None, List, [], ◌∷◌, ◌++◌, length, take, drop, slice_index, refl, sym, ap, ◌∙◌, arith, subst}
+use Rattle.std.proofs.lemmas.Nat.Bits.{and_high_mask}
+use Rattle.std.specs.Int.Bits.{and_zero_r}
+use mir.Val.{bool_byte}
 use Rattle.std.specs.Option.{is_some, IfSome}
 use Rattle.std.proofs.lemmas.List.{take_more, take_all, drop_all, drop_more, length-take, get_or-take, take-append-drop}
 use Rattle.encoding_definitions.specs.Sequence.{IsSequence, IsIncomplete, IsContinuation, IsPending}
@@ -18,6 +21,14 @@ malformed_none bs n last malformed = subst BeginsWithNoCharacter (take-append-dr
 -- so does an incomplete one that is all of the bytes
 pub incomplete_none : (bs : List ℕ) → IsIncomplete bs → BeginsWithNoCharacter bs
 incomplete_none bs o = (first_open bs o).0
+
+-- if a mask says whether something holds, one test also decides whether the byte continues a sequence
+pub masked : (A : Type 0) (b : Bool) (second : ℕ) → second < 256 → (IsTrue b ↔ A)
+    → (bit_and second (bool_byte b * 192) ≡ 128) ↔ A × IsContinuation second
+masked A true second small same =
+    let high : bit_and second 192 ≡ second / 64 * 64 = and_high_mask 8 6 (omega arith) second small in
+    rw high (λ t. (same.0 refl, (omega (arith, t), omega (arith, t))), λ h. omega (arith, h.1.0, h.1.1))
+masked A false second small same = rw (and_zero_r second) (λ t. absurd (omega (arith, t)), λ h. absurd (true≢false (sym (same.1 h.0))))
 
 -- so does a sequence that the first two bytes show
 pub shown_none : {X : Type 0} (first : Option X) (bs : List ℕ) → IfSome first (λ _. BeginsWithNoCharacter bs) → is_some first ≡ true → BeginsWithNoCharacter bs

@@ -235,15 +235,7 @@ fn decode_neutral<U: CodeUnit>(
     if dst.len() - written < U::MAX_UNITS {
         return (DecoderResult::OutputFull, read, written);
     }
-    let rest = &src[read..];
-    if let Some(First::Malformed(length)) = First::of_two(rest) {
-        return (
-            DecoderResult::Malformed(length as u8, 0),
-            read + length,
-            written,
-        );
-    }
-    let (result, more) = pending.end_after_two(rest, last);
+    let (result, more) = pending.end_before(&src[read..], last);
     (result, read + more, written)
 }
 

@@ -110,8 +110,22 @@ impl Pending {
     }
 
     /// Ends a call before `rest`, which starts with no character: reads the malformed sequence, or keeps an incomplete
-    /// sequence as pending. Returns what ended the call and how many bytes were read. Out of line: most malformed sequences
-    /// are one byte, and two show them.
+    /// sequence as pending. Returns what ended the call and how many bytes were read.
+    #[tactic(auto, using(crate::proofs::CallLemmas::not_ascii))]
+    #[inline]
+    pub(crate) fn end_before(&mut self, rest: &[u8], last: bool) -> (DecoderResult, usize)
+        requires neutral { self.old ≡ [] }
+        requires not_empty { 0 < length rest.now }
+        requires no_character { BeginsWithNoCharacter rest.now }
+        ensures { IsResultWithoutCharacter rest.now last result.0 result.1 self.new }
+    {
+        if let Some(First::Malformed(length)) = First::of_two(rest) {
+            return (DecoderResult::Malformed(length as u8, 0), length);
+        }
+        self.end_after_two(rest, last)
+    }
+
+    /// Ends a call as `end_before` does. Out of line: most malformed sequences are one byte, and two show them.
     #[tactic(auto, using(crate::proofs::CallLemmas::not_ascii, crate::proofs::FirstLemmas::pending_rest))]
     #[inline(never)]
     pub(crate) fn end_after_two(&mut self, rest: &[u8], last: bool) -> (DecoderResult, usize)
