@@ -10,11 +10,11 @@ use super::kinds::{Ascii, Mixed, ThreeByte, TwoByte, convert_run, convert_spilli
 use super::mixed::SPILL;
 use super::pairs::{are_two_byte_or_paired, write_two_byte_or_paired};
 use super::tail::{convert_first_sixteen, convert_spilled};
-use super::two_byte::are_two_byte;
 use crate::scalar::is_surrogate;
 use crate::simd::width::{BASIC_LATIN_END, HALF_STRIDE, STRIDE};
 use crate::tuning::{ASCII_RUN, MIXED_RUN, TWO_BYTE_RUN};
 use crate::utf16::source::CodeUnits;
+use std::simd::prelude::*;
 
 /// Converts blocks from the start of `src`, until many in a row are ASCII or have three bytes for each unit, or one has
 /// a surrogate, or the end is near. `due` and the last number returned are as for `convert_run`.
@@ -205,7 +205,7 @@ pub fn convert_paired_blocks<S: CodeUnits>(src: S, dst: &mut [u8]) -> (usize, us
     let mut written = 0;
     while src.count() - read > STRIDE
         && dst.len() - written >= 32
-        && !are_two_byte(src.sixteen(read))
+        && src.sixteen(read).simd_ge(u16x16::splat(0x800)).any()
         && are_two_byte_or_paired(src, read)
     {
         let (units, bytes) = write_two_byte_or_paired(src, read, dst, written);
