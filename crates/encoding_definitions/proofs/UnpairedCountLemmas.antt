@@ -1,12 +1,12 @@
 -- The number of unpaired surrogates: of joined parts, of units with one more part before them, and at most one for each
 -- unit.
-use Rattle.std.proofs.Common.{◌≡◌, ℕ, ◌+◌, ◌≤◌, List, [], ◌∷◌, ◌++◌, length, refl, ap, ◌∙◌, arith, subst}
+use Rattle.std.proofs.Common.{◌≡◌, ℕ, ◌+◌, ◌≤◌, List, [], ◌∷◌, ◌++◌, length, ap, arith}
 use Rattle.std.specs.List.{flat_map}
 use Rattle.std.proofs.lemmas.List.{length-append}
 use Rattle.encoding_definitions.specs.FirstScalar.{IsFirstPart16}
 use Rattle.encoding_definitions.specs.Surrogates.{unpaired_count, HasUnpaired}
-use Rattle.encoding_definitions.specs.Utf16.{AreCodeUnits, Part16, Character16, Unpaired, units_of_part16, ArePaired, ArePartsOf16}
-use Rattle.encoding_definitions.proofs.Utf16Lemmas.{parts_of, parts_exist, parts_unique, ArePartsOf16-cons, AreCodeUnits-tail}
+use Rattle.encoding_definitions.specs.Utf16.{AreCodeUnits, Part16, Character16, Unpaired, units_of_part16}
+use Rattle.encoding_definitions.proofs.Utf16Lemmas.{ArePartsOf16-cons, AreCodeUnits-tail}
 
 pub unpaired_count-cons : (p : Part16) (ps : List Part16) → unpaired_count (p ∷ ps) ≡ unpaired_count (p ∷ []) + unpaired_count ps
 unpaired_count-cons (Character16 c) ps = omega arith

@@ -1,15 +1,15 @@
 -- The UTF-8 of a prefix of the parts of units: well-formed, walked part by part, and joined from two prefixes.
-use Rattle.std.proofs.Common.{ℕ, zero, suc, List, [], ◌∷◌, length, take, sym, ap, ◌∙◌, arith, subst, IsUtf8, ◌≡◌, ◌+◌, ◌-◌, ◌*◌, ◌<◌, ◌≤◌, ◌⊎◌, inl, inr, get_or, ◌++◌, drop, encode_utf8, refl, append_assoc}
+use Rattle.std.proofs.Common.{ℕ, zero, suc, List, [], ◌∷◌, length, take, sym, ap, ◌∙◌, arith, subst, IsUtf8, ◌≡◌, ◌+◌, ◌-◌, ◌*◌, ◌<◌, ◌≤◌, inl, inr, get_or, ◌++◌, drop, encode_utf8, refl, append_assoc}
 use Rattle.std.specs.List.{flat_map}
 use Rattle.std.proofs.lemmas.List.{take_all, append-nil, length-append, length-drop, take_at, take_rest, drop_all, drop_more, drop-drop, get_or-drop, get_or_past, take-append-drop}
 use Rattle.std.proofs.lemmas.Str.{IsUtf8-nil, IsUtf8-append, IsUtf8-encode, length-encode}
 use Rattle.encoding_definitions.specs.Utf16.{Part16, Character16, Unpaired, utf8_of_part16, ArePaired, IsUtf8OfLongestPrefix, IsUtf8OfUnits, AreCodeUnits, scalar_of_part16, units_of_part16, ArePartsOf16, IsUtf8OfPrefix}
 use Rattle.encoding_definitions.proofs.EncodingLemmas.{high_scalar}
-use Rattle.encoding_definitions.proofs.Utf16Lemmas.{first_of_parts, tail_paired, parts_of, parts_of-nil, parts_of-first, parts_exist, rest_parts, none_left, parts_unique, length-utf8_of_all, length-units_of_part16, first_pair, first_unit, first_single}
+use Rattle.encoding_definitions.proofs.Utf16Lemmas.{first_of_parts, tail_paired, parts_of, parts_of-nil, parts_of-first, parts_exist, rest_parts, none_left, parts_unique, length-utf8_of_all, length-units_of_part16, first_pair, first_single}
 use Rattle.std.specs.Char.{len_utf8}
 use Rattle.std.specs.Char.Escape.{encode_utf16}
 use Rattle.std.specs.Char.Utf16.{surrogate_pair_char}
-use Rattle.std.proofs.str.Utf16.{one_unit, two_units, IsPair}
+use Rattle.std.proofs.str.Utf16.{two_units, IsPair}
 use Rattle.std.proofs.lemmas.Bool.{cases_lt}
 use Rattle.encoding_definitions.specs.Prefixes.{IsLongestFittingPrefix, WritesPrefix}
 use Rattle.encoding_definitions.specs.FirstScalar.{IsFirstPart16, IsFirstScalar}
@@ -165,17 +165,6 @@ module _ (us : List ℕ) (at : ℕ) where
     counts = e;
     first = subst (IsFirstPart16 (drop at us) p) (sym (ap (λ k. drop k (drop at us)) l ∙ drop-drop n at us)) f;
   }
-
-  -- a unit that is no surrogate
-  pub scalar_of_unit : at < length us → get_or us at 0 < 0x10000 → (0xD800 ≤ get_or us at 0 → get_or us at 0 ≤ 0xDFFF → ⊥)
-      → IsFirstScalar (drop at us) (get_or us at 0)
-  scalar_of_unit h w n =
-      let apart : (get_or us at 0 < 0xD800) ⊎ (0xDFFF < get_or us at 0) = elim (cases_lt (get_or us at 0) 0xD800) [
-        | inl l ↦ inl l
-        | inr l ↦ elim (cases_lt 0xDFFF (get_or us at 0)) [ inl k ↦ inr k | inr k ↦ absurd (n l k) ]
-      ] in
-      scalar_here (Character16 (get_or us at 0)) (get_or us at 0) 1 refl (ap length (one_unit _ w))
-      (subst (λ xs. IsFirstPart16 xs (Character16 (get_or us at 0)) (drop (at + 1) us)) (sym (drop_more us at 0 h)) (first_unit _ _ w apart))
 
   -- a pair
   pub scalar_of_two : at + 1 < length us → IsPair (get_or us at 0) (get_or us (at + 1) 0)

@@ -9,9 +9,11 @@ use Rattle.std.proofs.lemmas.Bool.Decides.{nat_tests}
 use Rattle.std.proofs.lemmas.Grind.{same_number_lists}
 use Rattle.std.proofs.lemmas.Nat.{and_mask, ones_le_self}
 use Rattle.std.proofs.lemmas.List.{length-map, length-append, length-take-le, length-drop, get_or-map, take-map, map-append, take-append-drop, take_at, drop_at, drop-drop, drop-append-le}
-use Rattle.std.proofs.lemmas.Simd.{SwzOk, SwzOk-from_below, swz_l, length-swz_l, get_or-swz_l_below, Each1-from_get_or, Each1-get_or, mask_l-lt, ones-mask_l_cons, length-put_chunk}
+use Rattle.std.proofs.lemmas.Simd.{SwzOk, SwzOk-from_below, swz_l, Each1-get_or, mask_l-lt, ones-mask_l_cons, length-put_chunk}
 use Rattle.encoding_kernels.specs.declared.utf8_to_utf16.strides.TheConstants.{COMPRESSED}
-use Rattle.encoding_kernels.proofs.VectorLemmas.{put_prefix, put_is, HasLanes-itself, HasLanes-numbers, HasLanes-splat, compared, firsts_are, same_below, bytes_lanes, wide, wide_l}
+use Rattle.encoding_kernels.specs.Scans.{HasLanes}
+use Rattle.encoding_kernels.proofs.MovedLemmas.{words_moved}
+use Rattle.encoding_kernels.proofs.VectorLemmas.{put_prefix, put_is, HasLanes-itself, HasLanes-numbers, HasLanes-splat, compared, firsts_are, same_below, wide_l}
 use Rattle.encoding_kernels.proofs.MaskLemmas.{chosen_by, tests_of}
 use Rattle.encoding_kernels.proofs.MaskPartLemmas.{mask_split, low_half, high_half}
 use Rattle.encoding_kernels.specs.EndingUnits.{keep, places_from, compressed_places, bytes_at, byte_places, WritesCompressed}
@@ -40,7 +42,7 @@ up_to_each n [] e = tt
 up_to_each n (k ∷ ks) e = let p = and_parts (leb k n) (up_to n ks) e in (omega (arith, leb-true _ _ p.0), up_to_each n ks p.1)
 
 abbrev has_shape : ℕ → Bool
-has_shape m = (eqb (length (compressed_places m)) 8 && up_to 7 (compressed_places m)) && (eqb (length (byte_places m)) 16 && up_to 15 (byte_places m))
+has_shape m = eqb (length (compressed_places m)) 8 && (eqb (length (byte_places m)) 16 && up_to 15 (byte_places m))
 
 shape : (m : ℕ) → m < 256 → has_shape m ≡ true
 unfolding byte_places bytes_at compressed_places places_from
@@ -48,11 +50,7 @@ shape = same_below has_shape (λ _. true) true 256 refl
 
 module _ (m : ℕ) (l : m < 256) where
   places_long : length (compressed_places m) ≡ 8
-  places_long = eqb-true _ _ (and_parts _ _ (and_parts _ _ (shape m l)).0).0
-
-  places_small : (j : ℕ) → j < 8 → get_or (compressed_places m) j 0 < 8
-  places_small j k = Each1-get_or (λ i. i < 8) (compressed_places m) j 0 (omega (arith, places_long))
-      (up_to_each 7 _ (and_parts _ _ (and_parts _ _ (shape m l)).0).1)
+  places_long = eqb-true _ _ (and_parts _ _ (shape m l)).0
 
   pub bytes_long : length (byte_places m) ≡ 16
   bytes_long = eqb-true _ _ (and_parts _ _ (and_parts _ _ (shape m l)).1).0
@@ -76,11 +74,6 @@ odd_at [] j l = absurd (omega arith)
 odd_at (k ∷ ks) zero l = refl
 odd_at (k ∷ ks) (suc j) l = ap (λ n. get_or (bytes_at (k ∷ ks)) n 0) {x = 2 * suc j + 1} {y = suc (suc (2 * j + 1))} (omega arith) ∙ odd_at ks j (omega arith)
 
-digit_small : (n x i : ℕ) → get_or (digits_l 256 n x) i 0 < 256
-digit_small zero x i = omega arith
-digit_small (suc n) x zero = omega arith
-digit_small (suc n) x (suc i) = digit_small n (x / 256) i
-
 module _ (us : List ℕ) (eight : length us ≡ 8) (fit : Each1 (λ x. x < 65536) us) (m : ℕ) (l : m < 256) where
   abbrev ks : List ℕ
   ks = compressed_places m
@@ -91,37 +84,17 @@ module _ (us : List ℕ) (eight : length us ≡ 8) (fit : Each1 (λ x. x < 65536
   abbrev picked : List ℕ
   picked = swz_l w8 16 bytes 0 (byte_places m)
 
-  picked_long : length picked ≡ 16
-  picked_long = length-swz_l w8 16 bytes 0 (byte_places m) ∙ bytes_long m l
-
-  -- a byte that is picked, by its index
-  picked_at : (i k : ℕ) → i < 16 → get_or (byte_places m) i 0 ≡ k → k < 16 → get_or picked i 0 ≡ get_or bytes k 0
-  picked_at i k h e s =
-      let is : 16 * ((0 + i) / 16) + get_or (byte_places m) i 0 ≡ k = omega (arith, e) in
-      get_or-swz_l_below w8 16 bytes 0 (byte_places m) i (omega (arith, bytes_long m l)) (omega (arith, e, s)) ∙ ap (λ n. get_or bytes n 0) is
-
-  picked_small : Each1 (λ x. x < 256) picked
-  picked_small = Each1-from_get_or (λ x. x < 256) picked 0 (λ i h.
-      let in_16 : i < 16 = omega (arith, picked_long) in
-      let small = Each1-get_or (λ j. j < 16) (byte_places m) i 0 (omega (arith, bytes_long m l)) (bytes_small m l) in
-      subst (λ x. x < 256) (sym (picked_at i _ in_16 refl small)) (digit_small 16 (number_l 65536 us) _))
-
-  compressed_at : (j : ℕ) → j < 8 → get_or (wide_l picked) j 0 ≡ get_or us (get_or ks j 0) 0
+  compressed_lanes : HasLanes 8 (wide_l picked) (λ j. get_or us (get_or ks j 0) 0)
   unfolding byte_places
-  compressed_at j h =
-      let k = get_or ks j 0 in
-      let small = places_small m l j h in
-      let in_ks : j < length ks = omega (arith, places_long m l) in
-      let two = bytes_lanes (HasLanes-itself 8 us eight) (λ i b. Each1-get_or (λ x. x < 65536) us i 0 (omega (arith, eight)) fit) k small in
-      let low : get_or picked (2 * j) 0 ≡ get_or us k 0 % 256 = picked_at (2 * j) (2 * k) (omega arith) (even_at ks j in_ks) (omega (arith, small)) ∙ two.0 in
-      let high : get_or picked (2 * j + 1) 0 ≡ get_or us k 0 / 256 =
-      picked_at (2 * j + 1) (2 * k + 1) (omega arith) (odd_at ks j in_ks) (omega (arith, small)) ∙ two.1 in
-      let whole : get_or us k 0 % 256 + 256 * (get_or us k 0 / 256) ≡ get_or us k 0 = omega arith in
-      (wide picked picked_long picked_small).each j h ∙ (λ i. low i + 256 * high i) ∙ whole
+  compressed_lanes =
+      let long = places_long m l in
+      words_moved us (byte_places m) (λ k. get_or (byte_places m) k 0) (λ j. get_or ks j 0) eight fit (HasLanes-itself 16 (byte_places m) (bytes_long m l))
+      (λ k h. Each1-get_or (λ j. j < 16) (byte_places m) k 0 (omega (arith, bytes_long m l)) (bytes_small m l))
+      (λ j h. even_at ks j (omega (arith, long))) (λ j h. odd_at ks j (omega (arith, long)))
 
   pub compressed : digits_l 65536 8 (number_l 256 picked) ≡ map (λ k. get_or us k 0) (compressed_places m)
   compressed = same_number_lists _ _ (sym (length-map (compressed_places m) (λ k. get_or us k 0) ∙ places_long m l)) (λ j h.
-      compressed_at j h ∙ sym (get_or-map (λ k. get_or us k 0) (compressed_places m) j 0 0 (omega (arith, places_long m l))))
+      compressed_lanes.each j h ∙ sym (get_or-map (λ k. get_or us k 0) (compressed_places m) j 0 0 (omega (arith, places_long m l))))
 
 -- ---- kept elements
 kept_places : (f : ℕ → ℕ) (ms : List Bool) (us : List ℕ) (at : ℕ) → length ms ≡ length us → ((i : ℕ) → f (at + i) ≡ get_or us i 0)

@@ -14,6 +14,7 @@ pub mod LengthLemmas
 pub mod MaskLemmas
 pub mod MaskPartLemmas
 pub mod MixedLemmas
+pub mod MovedLemmas
 pub mod OverwriteLemmas
 pub mod PairsLemmas
 pub mod ScalarsLemmas

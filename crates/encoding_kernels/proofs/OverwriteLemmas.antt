@@ -160,17 +160,17 @@ spills_both old mid new at n place m all xs ys out p q here count e =
     let both = spills_then old mid new at n m 16 16 xs ys p (subst (λ j. Spills mid new j m 16 ys) here q) (omega arith) in
     subst (λ j. Spills old new at j 16 out) count (subst (Spills old new at (n + m) 16) e both)
 
--- the first `count` of n bytes at the start, if what may have changed after them is written back
-pub spills_kept : (old mid out : List ℕ) (n count : ℕ) → Spills old mid 0 n 16 out → count ≤ n → n ≤ count + 16 → count + 32 ≤ length old
-    → WritesPrefix old (put_chunk count mid (chunk count 32 old)) count (take count out)
+-- the first `count` of n bytes at the start, if what was in place of the others is written back
+pub spills_kept : (old mid out : List ℕ) (n count : ℕ) → Spills old mid 0 n 0 out → count ≤ n → n ≤ count + 16 → count + 16 ≤ length old
+    → WritesPrefix old (put_chunk count mid (chunk count 16 old)) count (take count out)
 spills_kept old mid out n count p few near room =
     let none : 0 + n ≡ n = omega arith in
     let start : take count mid ≡ take count out = sym (take-take count n mid few) ∙ ap (take count) (ap (λ k. take k mid) (sym none) ∙ p.prefix) in
-    let over : count + 32 ≡ 0 + n + 16 + (count + 16 - n) = omega arith in
+    let over : count + 16 ≡ 0 + n + 0 + (count + 16 - n) = omega arith in
     record {
       count = sym (length-take-le count out (omega (arith, p.counted)));
       fits = omega arith;
-      placed = put_back 32 old mid count room p.long (later (0 + n + 16) (count + 16 - n) (count + 32) mid old p.following over)
+      placed = put_back 16 old mid count room p.long (later (0 + n + 0) (count + 16 - n) (count + 16) mid old p.following over)
           ∙ ap (λ xs. xs ++ drop count old) start;
     }
 

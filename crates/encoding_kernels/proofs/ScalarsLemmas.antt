@@ -7,11 +7,12 @@ use Rattle.std.specs.List.{flat_map}
 use Rattle.std.specs.Str.{all_scalars}
 use Rattle.std.proofs.lemmas.Bool.{and_from, cases_lt}
 use Rattle.std.proofs.lemmas.Bool.Decides.{nat_tests}
-use Rattle.std.proofs.lemmas.List.{drop_more, take_at, take_rest}
+use Rattle.std.proofs.lemmas.List.{drop_at, drop_more, take_at, take_rest}
 use Rattle.std.proofs.lemmas.List.Concat.{flat_map-append}
 use Rattle.std.proofs.str.Laws.{scalars-append}
 use Rattle.std.proofs.str.Utf16.{one_unit, IsPair}
 use borrow.Rule.Slice.PartMut.{put_mid}
+use Rattle.encoding_definitions.specs.FirstScalar.{IsFirstScalar}
 use Rattle.encoding_definitions.specs.Prefixes.{WritesPrefix}
 use Rattle.encoding_definitions.specs.Utf16.{AreCodeUnits, Character16, utf8_of_part16}
 use Rattle.encoding_definitions.proofs.EncodingLemmas.{flat_map-encode_utf8}
@@ -19,7 +20,7 @@ use Rattle.encoding_definitions.proofs.PrefixesLemmas.{WritesPrefix-nil, WritesP
 use Rattle.encoding_definitions.proofs.SurrogateLemmas.{parts_of-characters}
 use Rattle.encoding_definitions.proofs.Utf16LawLemmas.{characters_units}
 use Rattle.encoding_definitions.proofs.Utf16Lemmas.{parts_of, parts_of-first, first_pair, first_unit}
-use Rattle.encoding_definitions.proofs.Utf16PrefixLemmas.{Walked}
+use Rattle.encoding_definitions.proofs.Utf16PrefixLemmas.{Walked, scalar_of_unpaired}
 use Rattle.encoding_kernels.specs.Utf8Output.{AreBmpScalars, IsCharacterAt, WritesBmp, WritesScalars}
 use Rattle.encoding_kernels.proofs.ScanLemmas.{Each-take}
 
@@ -62,6 +63,30 @@ pair_begins us at l p =
       rest = drop (at + 1 + 1) us;
       begins = drop_more us at 0 (omega arith) ∙ ap (λ xs. get_or us at 0 ∷ xs) (drop_more us (at + 1) 0 l) ∙ first.1;
     }
+
+-- the first part is the character
+pub character_first : (us : List ℕ) (at c : ℕ) → IsCharacterAt us at c → IsFirstScalar (drop at us) c
+character_first us at c h = record {
+  part = Character16 c;
+  counts = refl;
+  first = (
+    h.is_scalar,
+    h.begins ∙ ap (λ xs. encode_utf16 c ++ xs) (sym (ap (drop (length (encode_utf16 c))) h.begins ∙ drop_at (encode_utf16 c) h.rest _ refl)),
+  );
+}
+
+-- no character: an unpaired surrogate
+pub unpaired_first : (us : List ℕ) (at : ℕ) → at < length us → get_or us at 0 < 0x10000 → ((c : ℕ) → IsCharacterAt us at c → ⊥)
+    → IsFirstScalar (drop at us) 0xFFFD
+unpaired_first us at l w n =
+    let within : (0xD800 ≤ get_or us at 0) × (get_or us at 0 ≤ 0xDFFF) = elim (cases_lt (get_or us at 0) 0xD800) [
+      | inl a ↦ absurd (n _ (unit_begins us at l w (λ b _. omega (arith, a, b))))
+      | inr a ↦ elim (cases_lt 0xDFFF (get_or us at 0)) [
+        | inl b ↦ absurd (n _ (unit_begins us at l w (λ _ k. omega (arith, b, k))))
+        | inr b ↦ (a, b)
+      ]
+    ] in
+    scalar_of_unpaired us at l within.0 within.1 (λ i p. n _ (pair_begins us at i p))
 
 -- code units begin with one character
 pub one_character : (us : List ℕ) (at c d : ℕ) → IsCharacterAt us at c → IsCharacterAt us at d → c ≡ d

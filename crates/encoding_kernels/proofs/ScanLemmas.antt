@@ -97,6 +97,23 @@ module _ (bound at n : ℕ) (xs stride : List ℕ) (is : stride ≡ take n (drop
   pub unit_is : (k : ℕ) → k < n → slice_index stride k ≡ slice_index xs (at + k)
   unit_is k l = ap (λ ys. slice_index ys k) is ∙ get_or-take n (drop at xs) k 0 l ∙ get_or-drop at xs k 0
 
+-- the first `run` of them are those of the list, and how many are below a bound
+module _ (n at : ℕ) (xs : List ℕ) {stride : List ℕ} (is : stride ≡ take n (drop at xs)) where
+  pub run_taken : (run : ℕ) → run ≤ n → take run stride ≡ take run (drop at xs)
+  run_taken run few = ap (take run) is ∙ take-take run n (drop at xs) few
+
+  pub run_below : {bound : ℕ} (run : ℕ) → run ≤ n → AllBelow bound stride 0 run → AllBelow bound xs at run
+  run_below {bound} run few below k from to =
+      let e : at + (k - at) ≡ k = omega arith in
+      subst (λ u. u < bound) (unit_is 0 at n xs stride is (k - at) (omega arith) ∙ ap (slice_index xs) e) (below (k - at) (omega arith) (omega arith))
+
+  pub run_ends : {bound : ℕ} (run : ℕ) → IsRunBelow bound stride 0 n run → run < n → bound ≤ slice_index xs (at + run)
+  run_ends {bound} run r short = elim (cases_lt (slice_index xs (at + run)) bound) [
+    | inl l ↦ let e : run ≡ 0 + run = omega arith in
+        absurd (r.stops short (subst (λ u. u < bound) (sym (unit_is 0 at n xs stride is run short) ∙ ap (slice_index stride) e) l))
+    | inr l ↦ l
+  ]
+
 -- ---- groups of strides
 module _ {X : Type 0} (n : ℕ) where
   take_firsts : (w k : ℕ) (xs : List X) → w ≤ k → take w (first_chunks n k xs) ≡ first_chunks n w xs
@@ -162,28 +179,20 @@ first_part n xs stride {strides} are count is =
     (stride_part n xs {i = 0} are count {at = 0} [] (omega arith) (slice_get_within strides 0 stride found))
 
 -- ---- prefixes of units below a bound
-module _ {bound n at : ℕ} {xs part : List ℕ} (p : IsPart n at xs part) (before : BelowUpTo bound xs at) where
-  -- the first `run` units of the part are below the bound too
-  pub below_more : (run : ℕ) → run ≤ n → AllBelow bound part 0 run → BelowUpTo bound xs (at + run)
-  below_more run few below k l = elim (cases_lt k at) [
-    | inl q ↦ before k q
-    | inr q ↦ let e : at + (k - at) ≡ k = omega arith in
-        subst (λ u. u < bound) (unit_is 0 at n xs part p.is (k - at) (omega arith) ∙ ap (slice_index xs) e) (below (k - at) (omega arith) (omega arith))
-  ]
+-- n more units are below the bound
+pub below_joined : (bound : ℕ) (xs : List ℕ) (at n : ℕ) → BelowUpTo bound xs at → AllBelow bound xs at n → BelowUpTo bound xs (at + n)
+below_joined bound xs at n h g = λ k l. elim (cases_lt k at) [ inl p ↦ h k p | inr p ↦ g k p l ]
 
-  -- and the next one isn't
-  pub other_next : (run : ℕ) → IsRunBelow bound part 0 n run → run < n → bound ≤ slice_index xs (at + run)
-  other_next run r short = elim (cases_lt (slice_index xs (at + run)) bound) [
-    | inl l ↦ let e : run ≡ 0 + run = omega arith in
-        absurd (r.stops short (subst (λ u. u < bound) (sym (unit_is 0 at n xs part p.is run short) ∙ ap (slice_index part) e) l))
-    | inr l ↦ l
-  ]
+-- the first `run` units of a part
+pub below_more : {bound n at : ℕ} {xs part : List ℕ} → IsPart n at xs part → BelowUpTo bound xs at → (run : ℕ) → run ≤ n → AllBelow bound part 0 run
+    → BelowUpTo bound xs (at + run)
+below_more {bound} {n} {at} {xs} p before run few below = below_joined bound xs at run before (run_below n at xs p.is run few below)
 
 -- the longest ASCII prefix ends in a part
 pub ascii_prefix_in : {n at run : ℕ} {xs part : List ℕ} → IsPart n at xs part → BelowUpTo 0x80 xs at → IsRunBelow 0x80 part 0 n run → run < n
     → IsLongestPrefix IsAscii xs (at + run)
 ascii_prefix_in {n} {at} {run} {xs} p before r short =
-    ascii_prefix_at xs (at + run) (omega (arith, p.within)) (below_more p before run r.within r.pass) (other_next p before run r short)
+    ascii_prefix_at xs (at + run) (omega (arith, p.within)) (below_more p before run r.within r.pass) (run_ends n at xs p.is run r short)
 
 -- in the first one
 pub ascii_prefix_first : {n run : ℕ} {xs part : List ℕ} → IsPart n 0 xs part → IsRunBelow 0x80 part 0 n run → run < n → IsLongestPrefix IsAscii xs run
@@ -220,9 +229,8 @@ module _ {n at : ℕ} {xs part : List ℕ} (p : IsPart n at xs part) {old new af
   pub copied_first : (run : ℕ) → run ≤ n → after ≡ take at new ++ (take run part ++ drop (at + run) new)
       → WritesPrefix old after (at + run) (take (at + run) xs)
   copied_first run few put =
-      let same : take run part ≡ take run (drop at xs) = ap (take run) p.is ∙ take-take run n (drop at xs) few in
       WritesPrefix_block old new after xs at run w (omega (arith, p.within)) (omega (arith, p.within, WritesPrefix-length _ _ _ _ w))
-      (put ∙ ap (λ ys. take at new ++ (ys ++ drop (at + run) new)) same)
+      (put ∙ ap (λ ys. take at new ++ (ys ++ drop (at + run) new)) (run_taken n at xs p.is run few))
 
 -- the first `run` of the first stride
 pub copied_start : {n : ℕ} {xs part : List ℕ} → IsPart n 0 xs part → {old after : List ℕ} → length xs ≤ length old → (run : ℕ) → run ≤ n

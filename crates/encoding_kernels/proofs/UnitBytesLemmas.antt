@@ -1,6 +1,6 @@
 -- Code units of bytes: each by its index, eight or sixteen as a vector, and the bytes of code units.
-use Rattle.std.proofs.Common.{take-add, ◌≡◌, ℕ, zero, suc, ◌+◌, ◌-◌, ◌*◌, ◌/◌, ◌%◌, ◌^◌, ◌<◌, ◌≤◌, Bool, true, false, List, [], ◌∷◌, ◌++◌, length, take, drop, get_or, refl, set, map, bit_and, bit_or, inl, inr, sym, ap, ◌∙◌, arith, replicate}
-use Rattle.std.proofs.lemmas.List.{get_or-take, get_or-drop, length-drop, length-map, length-take-le, get_or-map, take_more, take_all, take_at, take-take, length-append, drop_at, drop-drop, take-append-drop}
+use Rattle.std.proofs.Common.{take-add, ◌≡◌, ℕ, zero, suc, ◌+◌, ◌-◌, ◌*◌, ◌/◌, ◌%◌, ◌^◌, ◌<◌, ◌≤◌, ◌⊎◌, Bool, true, false, List, [], ◌∷◌, ◌++◌, length, take, drop, get_or, refl, set, bit_or, inl, inr, sym, ap, ◌∙◌, arith, replicate, subst}
+use Rattle.std.proofs.lemmas.List.{get_or-take, get_or-drop, length-drop, length-take-le, take_more, take_all, take_at, take-take, length-append, drop_at, drop-drop, take-append-drop}
 use Rattle.std.proofs.Math.Seq.{drop-nil}
 use Rattle.std.proofs.lemmas.Grind.{same_number_lists}
 use Rattle.std.proofs.lemmas.Bool.{cases_lt, false≢true}
@@ -9,13 +9,12 @@ use lib.Lanes.{zip2, chunk, Each1}
 use Rattle.std.proofs.lemmas.Nat.{le_or_l, le_or_r}
 use Rattle.std.proofs.lemmas.Simd.{get_or-zip2, length-zip2}
 use Rattle.encoding_definitions.specs.Prefixes.{WritesPrefix}
-use Rattle.encoding_definitions.proofs.PrefixesLemmas.{WritesPrefix-same, WritesPrefix_push}
+use Rattle.encoding_definitions.proofs.PrefixesLemmas.{WritesPrefix-same, WritesPrefix-nil, WritesPrefix_over, WritesPrefix_push}
 use Rattle.encoding_kernels.specs.Scans.{AllBelow, BelowUpTo, HasLanes}
 use Rattle.std.proofs.lemmas.List.Concat.{flat_map-append}
 use Rattle.std.specs.Simd.{first_chunks}
-use Rattle.encoding_kernels.proofs.ScanLemmas.{joined_firsts}
+use Rattle.encoding_kernels.proofs.ScanLemmas.{joined_firsts, run_below, WritesPrefix_block}
 use Rattle.encoding_kernels.specs.UnitBytes.{bytes_in, unit_of, units_of}
-use Rattle.encoding_kernels.proofs.CopyLemmas.{lower_are}
 use Rattle.encoding_kernels.proofs.VectorLemmas.{HasLanes-zip2, HasLanes-splat, HasLanes_same, wide, wide_l, wide_sixteen, wide_sixteen_l}
 
 pub length-units_of : (big : Bool) (bs : List ℕ) → length (units_of big bs) ≡ length bs / 2
@@ -116,6 +115,16 @@ module _ (big : Bool) (bs part zeros lanes : List ℕ) (n : ℕ) (is : n ≡ len
             ∙ ap (units_of big) (start ∙ same) ∙ all ∙ sym whole,
       )
 
+-- eight to fifteen code units, of which the first eight and the last eight were joined
+pub from_eights : (us first last lanes : List ℕ) (n : ℕ) → length us ≡ n → 8 ≤ n → n < 16 → first ≡ take 8 us → last ≡ take 8 (drop (n - 8) us)
+    → take n lanes ≡ first ++ drop (16 - n) last → take (length (take 16 us)) lanes ≡ take 16 us
+from_eights us first last lanes n long least few front back joined =
+    let whole : take 16 us ≡ us = take_all 16 us (omega arith) in
+    let ends : last ≡ drop (n - 8) us = back ∙ take_all 8 (drop (n - 8) us) (omega (arith, length-drop (n - 8) us)) in
+    let place : n - 8 + (16 - n) ≡ 8 = omega arith in
+    let rest : drop (16 - n) last ≡ drop 8 us = ap (drop (16 - n)) ends ∙ drop-drop (16 - n) (n - 8) us ∙ ap (λ k. drop k us) place in
+    ap (λ xs. take (length xs) lanes) whole ∙ ap (λ k. take k lanes) long ∙ joined ∙ (λ i. front i ++ rest i) ∙ take-append-drop 8 us ∙ sym whole
+
 -- a code unit by its index
 pub unit_at_is : (big : Bool) (bs : List ℕ) (k : ℕ) → 2 * k + 2 ≤ length bs
     → get_or (units_of big bs) k 0 ≡ unit_of big (get_or bs (2 * k) 0) (get_or bs (2 * k + 1) 0)
@@ -172,7 +181,7 @@ module _ (bs : List ℕ) (at : ℕ) (fit : Each1 (λ x. x < 256) bs) where
       HasLanes_same (wide (chunk (2 * at) 16 bs) (length-chunk (2 * at) 16 bs room) (Each1-chunk (λ x. x < 256) (2 * at) 16 bs fit))
       (λ k l. (λ i. get_or-chunk (2 * at) 16 bs (2 * k) 0 (omega arith) i + 256 * get_or-chunk (2 * at) 16 bs (2 * k + 1) 0 (omega arith) i))
 
-pub sixteen_long : (big : Bool) (bs : List ℕ) (at : ℕ) → 2 * at + 32 ≤ length bs → length (take 16 (drop at (units_of big bs))) ≡ 16
+sixteen_long : (big : Bool) (bs : List ℕ) (at : ℕ) → 2 * at + 32 ≤ length bs → length (take 16 (drop at (units_of big bs))) ≡ 16
 sixteen_long big bs at room = length-take-le 16 (drop at (units_of big bs)) (omega (arith, length-drop at (units_of big bs), length-units_of big bs))
 
 -- for either order
@@ -208,16 +217,6 @@ pub unit_of_big : (big : Bool) → big ≡ true → (bs : List ℕ) (k : ℕ) �
 unit_of_big true e bs k l = sym (unit_at_is true bs k l)
 unit_of_big false e bs k l = absurd (false≢true e)
 
--- sixteen code units that are below a bound
-pub sixteen_below : (big : Bool) (bs us : List ℕ) (at bound : ℕ) → us ≡ take 16 (drop at (units_of big bs)) → ((k : ℕ) → k < 16 → get_or us k 0 < bound)
-    → AllBelow bound (units_of big bs) at 16
-sixteen_below big bs us at bound e h = λ k from to.
-    let place : at + (k - at) ≡ k = omega arith in
-    let same : get_or us (k - at) 0 ≡ get_or (units_of big bs) k 0 = ap (λ xs. get_or xs (k - at) 0) e
-    ∙ get_or-take 16 (drop at (units_of big bs)) (k - at) 0 (omega arith)
-    ∙ get_or-drop at (units_of big bs) (k - at) 0 ∙ ap (λ i. get_or (units_of big bs) i 0) place in
-    omega (arith, same, h (k - at) (omega arith))
-
 -- twice sixteen in a row
 pub two_sixteens : (us a b : List ℕ) (at : ℕ) → a ≡ take 16 (drop at us) → b ≡ take 16 (drop (at + 16) us) → a ++ b ≡ take 32 (drop at us)
 two_sixteens us a b at e f =
@@ -228,30 +227,45 @@ two_ascii us both at e below k l =
     let same : get_or both k 0 ≡ get_or us (at + k) 0 = ap (λ xs. get_or xs k 0) e ∙ get_or-take 32 (drop at us) k 0 l ∙ get_or-drop at us k 0 in
     omega (arith, same, below (at + k) (omega arith) (omega arith))
 
--- their lower bytes, if they are ASCII
-pub packed : (big : Bool) (bs us : List ℕ) (at : ℕ) → 2 * at + 32 ≤ length bs → us ≡ take 16 (drop at (units_of big bs)) → AllBelow 0x80 (units_of big bs) at 16
-    → map (λ x. x) (zip2 bit_and us (replicate 16 0xFF)) ≡ take 16 (drop at (units_of big bs))
-packed big bs us at room e below =
-    let long : length us ≡ 16 = ap length e ∙ sixteen_long big bs at room in
-    let low = λ (unit : ℕ). unit % 0x100 in
-    lower_are 16 us long
-    ∙ same_number_lists (map low us) us (length-map us low) (λ k l.
-    let less : k < 16 = omega (arith, long, length-map us low) in
-    let same : get_or us k 0 ≡ get_or (units_of big bs) (at + k) 0 = ap (λ xs. get_or xs k 0) e ∙ get_or-take 16 (drop at (units_of big bs)) k 0 less
-    ∙ get_or-drop at (units_of big bs) k 0 in
-    let small : get_or us k 0 % 0x100 ≡ get_or us k 0 = omega (arith, same, below (at + k) (omega arith) (omega arith)) in
-    get_or-map low us k 0 0 (omega (arith, long)) ∙ small)
-    ∙ e
-
 -- one more code unit at the end of those that are written
 pub one_unit_more : (old new us : List ℕ) (n unit : ℕ) → unit ≡ get_or us n 0 → n < length us → n < length new → WritesPrefix old new n (take n us)
     → WritesPrefix old (set new n unit) (n + 1) (take (n + 1) us)
 one_unit_more old new us n unit e l room w =
     WritesPrefix-same _ _ _ _ _ _ (WritesPrefix_push old new n (take n us) unit w room) refl (ap (λ b. take n us ++ b ∷ []) e ∙ sym (take_more us n 0 l))
 
--- sixteen more
-pub below_joined : (bound : ℕ) (us : List ℕ) (at n : ℕ) → BelowUpTo bound us at → AllBelow bound us at n → BelowUpTo bound us (at + n)
-below_joined bound us at n h g = λ k l. elim (cases_lt k at) [ inl p ↦ h k p | inr p ↦ g k p l ]
+-- ---- a copy that may begin again
+-- the first `count` code units, which are ASCII, were copied, and the copy goes on at `at`: after these, or again at the start
+-- if they are sixteen
+pub record Copied (old new us : List ℕ) (at : ℕ) : Type 0 where
+  pub count : ℕ
+  pub place : (at ≡ count) ⊎ ((at ≡ 0) × (count ≡ 16))
+  pub below : BelowUpTo 0x80 us count
+  pub written : WritesPrefix old new count (take count us)
+
+-- after these
+pub copied_prefix : {old new us : List ℕ} {at : ℕ} → BelowUpTo 0x80 us at → WritesPrefix old new at (take at us) → Copied old new us at
+copied_prefix {at = at} below written = record { count = at; place = inl refl; below = below; written = written }
+
+module _ {old new us : List ℕ} {at : ℕ} (d : Copied old new us at) where
+  -- m more, with which a copy that began again has passed those sixteen
+  pub copied_on : {after : List ℕ} (m : ℕ) → AllBelow 0x80 us at m → (m < 16 → 0x80 ≤ get_or us (at + m) 0)
+      → ((before : List ℕ) → WritesPrefix before new at (take at us) → WritesPrefix before after (at + m) (take (at + m) us))
+      → WritesPrefix old after (at + m) (take (at + m) us)
+  copied_on {after} m more stops next = elim d.place [
+    | inl e ↦ next old (subst (λ k. WritesPrefix old new k (take k us)) (sym e) d.written)
+    | inr e ↦ WritesPrefix_over old new after d.count (at + m) (take d.count us) (take (at + m) us) d.written
+        (next new (subst (λ k. WritesPrefix new new k (take k us)) (sym e.0) (WritesPrefix-nil new)))
+        (elim (cases_lt m 16) [
+          | inl l ↦ absurd (omega (arith, d.below (at + m) (omega (arith, e.0, e.1, l)), stops l))
+          | inr l ↦ omega (arith, e.0, e.1, l)
+        ])
+  ]
+
+  -- by one store
+  pub copied_put : {after : List ℕ} (m : ℕ) → AllBelow 0x80 us at m → (m < 16 → 0x80 ≤ get_or us (at + m) 0) → at + m ≤ length us → at + m ≤ length new
+      → after ≡ take at new ++ (take m (drop at us) ++ drop (at + m) new) → WritesPrefix old after (at + m) (take (at + m) us)
+  copied_put {after} m more stops within room put =
+      copied_on m more stops (λ before w. WritesPrefix_block before new after us at m w within room put)
 
 -- four times sixteen code units whose lanes were joined
 or_below : (bound k : ℕ) (xs ys : List ℕ) → length xs ≡ 16 → length ys ≡ 16 → k < 16 → get_or (zip2 bit_or xs ys) k 0 < bound
@@ -270,6 +284,7 @@ module _ (big : Bool) (bs a b c d : List ℕ) (at : ℕ) (room : 2 * at + 128 �
       → c ≡ take 16 (drop (at + 32) (units_of big bs)) → d ≡ take 16 (drop (at + 48) (units_of big bs))
       → ((k : ℕ) → k < 16 → get_or (zip2 bit_or (zip2 bit_or a b) (zip2 bit_or c d)) k 0 < bound) → AllBelow bound (units_of big bs) at 64
   four_below bound e f g h below =
+      let us = units_of big bs in
       let la : length a ≡ 16 = ap length e ∙ sixteen_long big bs at (omega (arith, room)) in
       let lb : length b ≡ 16 = ap length f ∙ long 16 (omega arith) in
       let lc : length c ≡ 16 = ap length g ∙ long 32 (omega arith) in
@@ -277,10 +292,10 @@ module _ (big : Bool) (bs a b c d : List ℕ) (at : ℕ) (room : 2 * at + 128 �
       let lab : length (zip2 bit_or a b) ≡ 16 = length-zip2 bit_or a b (la ∙ sym lb) ∙ la in
       let lcd : length (zip2 bit_or c d) ≡ 16 = length-zip2 bit_or c d (lc ∙ sym ld) ∙ lc in
       let halves = λ (k : ℕ) (l : k < 16). or_below bound k (zip2 bit_or a b) (zip2 bit_or c d) lab lcd l (below k l) in
-      let first = sixteen_below big bs a at bound e (λ k l. (or_below bound k a b la lb l (halves k l).0).0) in
-      let second = sixteen_below big bs b (at + 16) bound f (λ k l. (or_below bound k a b la lb l (halves k l).0).1) in
-      let third = sixteen_below big bs c (at + 32) bound g (λ k l. (or_below bound k c d lc ld l (halves k l).1).0) in
-      let fourth = sixteen_below big bs d (at + 48) bound h (λ k l. (or_below bound k c d lc ld l (halves k l).1).1) in
+      let first = run_below 16 at us e 16 (omega arith) (λ k _ l. (or_below bound k a b la lb l (halves k l).0).0) in
+      let second = run_below 16 (at + 16) us f 16 (omega arith) (λ k _ l. (or_below bound k a b la lb l (halves k l).0).1) in
+      let third = run_below 16 (at + 32) us g 16 (omega arith) (λ k _ l. (or_below bound k c d lc ld l (halves k l).1).0) in
+      let fourth = run_below 16 (at + 48) us h 16 (omega arith) (λ k _ l. (or_below bound k c d lc ld l (halves k l).1).1) in
       λ k from to. elim (cases_lt k (at + 16)) [
         | inl p ↦ first k from p
         | inr p ↦ elim (cases_lt k (at + 32)) [

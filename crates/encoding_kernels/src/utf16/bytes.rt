@@ -7,7 +7,9 @@ ghost use Rattle.encoding_definitions.specs.Utf16.{AreCodeUnits};
 ghost use Rattle.encoding_kernels.specs.Scans.{AllBelow, BelowUpTo};
 ghost use Rattle.encoding_kernels.specs.UnitBytes.{bytes_in, units_of};
 
-use crate::simd::width::{BASIC_LATIN_END, STRIDE, UNIT_BLOCK};
+use crate::simd::copy::{pack, pack_first};
+use crate::simd::units::units_run_len_below;
+use crate::simd::width::{BASIC_LATIN_END, HALF_STRIDE, LANES, STRIDE, UNIT_BLOCK};
 use crate::utf16_to_utf8::two_byte::are_ascii;
 use std::simd::prelude::*;
 
@@ -88,7 +90,25 @@ pub(super) fn unit_at(big: bool, src: &[u8], at: usize) -> u16
     first + 0x100 * second
 }
 
-/// Returns the first sixteen code units, followed by zeros if there are fewer.
+/// Returns the first `count` of eight to sixteen code units, followed by any others: the first eight, and those of the last eight
+/// after these. Uses only vectors, since a load of what two stores wrote would stall on store forwarding.
+#[inline(always)]
+pub(super) fn joined_eights(first: u16x8, last: u16x8, count: usize) -> u16x16
+    requires lane_count { (length first ≡ 8) × (length last ≡ 8) }
+    requires count { (8 ≤ count) × (count ≤ 16) }
+    ensures lane_count { length result ≡ 16 }
+    ensures lanes { take count result ≡ first ++ drop (16 - count) last }
+{
+    let overlap = u8x16::splat((2 * (STRIDE - count)) as u8);
+    let places = (u8x16::from_array(LANES) + overlap) & u8x16::splat(15);
+    let following = u16x8::from_le_bytes(last.to_le_bytes().swizzle_dyn(places));
+    first.shuffle(
+        following,
+        [0, 1, 2, 3, 4, 5, 6, 7, 8, 9, 10, 11, 12, 13, 14, 15],
+    )
+}
+
+/// Returns the first sixteen code units, followed by any others if there are fewer.
 #[inline(always)]
 pub(super) fn first_sixteen(big: bool, src: &[u8]) -> u16x16
     ensures { (length result ≡ 16) × (take (length (take 16 (units_of big src.now))) result
@@ -98,18 +118,13 @@ pub(super) fn first_sixteen(big: bool, src: &[u8]) -> u16x16
     if count >= STRIDE {
         return sixteen_units(big, src, 0);
     }
+    if count >= HALF_STRIDE {
+        let last = eight_units(big, src, count - HALF_STRIDE);
+        return joined_eights(eight_units(big, src, 0), last, count);
+    }
     let mut bytes = [0; 2 * STRIDE];
     bytes[..2 * count].copy_from_slice(&src[..2 * count]);
     sixteen_units(big, &bytes, 0)
-}
-
-/// Returns whether the sixteen code units from index `at` on are ASCII.
-#[inline(always)]
-fn are_sixteen_ascii(big: bool, src: &[u8], at: usize) -> bool
-    requires { 2 * at + 32 ≤ length src.now }
-    ensures { IsTrue result → AllBelow 0x80 (units_of big src.now) at 16 }
-{
-    are_ascii(sixteen_units(big, src, at))
 }
 
 /// Returns whether the 64 code units from index `at` on are ASCII.
@@ -125,16 +140,25 @@ fn are_64_ascii(big: bool, src: &[u8], at: usize) -> bool
     are_ascii((first | second) | (third | fourth))
 }
 
-/// Copies the sixteen code units from index `at` on to the same index, each as a byte.
+/// Copies the ASCII prefix of the sixteen code units from index `at` on to the same index, each as a byte, and returns its length. One
+/// mask finds its end, without a branch that depends on the text.
 #[inline(always)]
-fn pack_sixteen(big: bool, src: &[u8], dst: &mut [u8], at: usize)
+fn copy_ascii_of_sixteen(big: bool, src: &[u8], dst: &mut [u8], at: usize) -> usize
     requires within { (2 * at + 32 ≤ length src.now) × (at + 16 ≤ length dst.old) }
-    requires ascii { AllBelow 0x80 (units_of big src.now) at 16 }
-    ensures { dst.new ≡ take at dst.old
-        ++ (take 16 (drop at (units_of big src.now)) ++ drop (at + 16) dst.old) }
+    ensures within { result ≤ 16 }
+    ensures ascii { AllBelow 0x80 (units_of big src.now) at result }
+    ensures stops { result < 16 → 0x80 ≤ slice_index (units_of big src.now) (at + result) }
+    ensures copied { dst.new ≡ take at dst.old
+        ++ (take result (drop at (units_of big src.now)) ++ drop (at + result) dst.old) }
 {
-    let lower = sixteen_units(big, src, at) & u16x16::splat(0xFF);
-    lower.cast::<u8>().copy_to_slice(&mut dst[at..]);
+    let stride = sixteen_units(big, src, at).to_array();
+    let run = units_run_len_below::<STRIDE>(&stride, 0, BASIC_LATIN_END);
+    if run == STRIDE {
+        pack::<STRIDE>(&stride, 0, dst, at);
+    } else {
+        pack_first(&stride, dst, at, run);
+    }
+    run
 }
 
 /// Writes twice sixteen ASCII code units from `at` on, each as a byte: of as many, AVX2 packs a whole vector at once.
@@ -182,13 +206,24 @@ pub fn copy_ascii_units(big: bool, src: &[u8], dst: &mut [u8]) -> usize
     ensures stops { result < length dst.old → 0x80 ≤ slice_index (units_of big src.now) result }
     ensures copied { WritesPrefix dst.old dst.new result (take result (units_of big src.now)) }
 {
+    // between other characters most prefixes end in the first stride
+    if dst.len() >= STRIDE {
+        let run = copy_ascii_of_sixteen(big, src, dst, 0);
+        if run < STRIDE {
+            return run;
+        }
+    }
     let mut at = 0;
     while dst.len() - at >= UNIT_BLOCK && are_64_ascii(big, src, at) {
         pack_64(big, src, dst, at);
         at += UNIT_BLOCK;
     }
-    while dst.len() - at >= STRIDE && are_sixteen_ascii(big, src, at) {
-        pack_sixteen(big, src, dst, at);
+    while dst.len() - at >= STRIDE {
+        let run = copy_ascii_of_sixteen(big, src, dst, at);
+        if run < STRIDE {
+            return at + run;
+        }
+        // a constant: the next load would wait for `run`, which comes from the mask
         at += STRIDE;
     }
     while at < dst.len() {

@@ -5,9 +5,10 @@ ghost use Rattle.std.specs.Prelude.{◌≡◌, ◌+◌, ◌-◌, ◌<◌, ◌≤
 ghost use Rattle.encoding_definitions.specs.Utf16.{AreCodeUnits};
 
 use super::bytes::{
-    count_units, eight_units, first_sixteen, first_units, sixteen_units, skip_units, unit_at,
+    count_units, eight_units, first_sixteen, first_units, joined_eights, sixteen_units, skip_units,
+    unit_at,
 };
-use crate::simd::width::STRIDE;
+use crate::simd::width::{HALF_STRIDE, STRIDE};
 use std::simd::prelude::*;
 
 /// The code units that a conversion reads.
@@ -34,7 +35,7 @@ pub trait CodeUnits: Copy {
         requires { at + 8 ≤ length (units self) }
         ensures { result ≡ take 8 (drop at (units self)) };
 
-    /// Returns the first sixteen code units, followed by zeros if there are fewer.
+    /// Returns the first sixteen code units, followed by any others if there are fewer.
     fn first_sixteen(self) -> u16x16
         ensures { (length result ≡ 16)
             × (take (length (take 16 (units self))) result ≡ take 16 (units self)) };
@@ -91,8 +92,12 @@ impl<'a> CodeUnits for Units<'a> {
     #[inline(always)]
     fn first_sixteen(self) -> u16x16 {
         let src = self.src;
-        if count_of(src) >= STRIDE {
-            return u16x16::from_slice(src);
+        let count = count_of(src);
+        if count >= STRIDE {
+            return self.sixteen(0);
+        }
+        if count >= HALF_STRIDE {
+            return joined_eights(self.eight(0), self.eight(count - HALF_STRIDE), count);
         }
         let mut units = [0; STRIDE];
         units[..src.len()].copy_from_slice(src);

@@ -1,15 +1,13 @@
 //! UTF-16LE and UTF-16BE to UTF-8 up to the first unpaired surrogate, without a copy of the code units.
 
-ghost use Rattle.std.specs.Prelude.{ℕ, ◌+◌, ◌<◌, length, encode_utf8, IsTrue, IfSome, IfNone};
+ghost use Rattle.std.specs.Prelude.{ℕ, ◌+◌, ◌<◌, length, encode_utf8, IsTrue};
 ghost use Rattle.encoding_kernels.specs.UnitBytes.{bytes_in, units_of};
 ghost use Rattle.encoding_kernels.specs.Utf8Output.{IsCharacterAt, WritesBmp, WritesScalars};
 
 use super::kinds::MOST_BYTES;
+use super::tail::character_at;
 use super::text::{convert_blocks, convert_paired_blocks};
-use crate::scalar::{
-    is_high_surrogate, is_low_surrogate, is_surrogate, pair_scalar, utf8_length, utf16_length,
-    write_scalar,
-};
+use crate::scalar::{is_high_surrogate, utf8_length, utf16_length, write_scalar};
 use crate::simd::width::{BASIC_LATIN_END, HALF_STRIDE, STRIDE};
 use crate::utf16::bytes::copy_ascii_units;
 use crate::utf16::source::{CodeUnits, UnitBytes};
@@ -44,6 +42,9 @@ fn convert_ascii_and_blocks<const BIG: bool>(
         let ascii = copy_ascii(src.skip(read), &mut dst[written..]);
         read += ascii;
         written += ascii;
+        if read == count {
+            return (read, written);
+        }
         let (units, bytes) = convert_blocks::<_, true>(src.skip(read), &mut dst[written..]);
         read += units;
         written += bytes;
@@ -71,27 +72,6 @@ fn convert_blocks_and_pairs<const BIG: bool>(
     }
     let (units, bytes) = convert_paired_blocks(src.skip(read), &mut dst[written..]);
     (read + units, written + bytes, units > 0)
-}
-
-/// Returns the scalar value of the character at index `at`, or `None` if an unpaired surrogate is there. A high surrogate at the end
-/// is unpaired.
-#[inline(always)]
-fn character_at<S: CodeUnits>(src: S, at: usize) -> Option<u32>
-    requires { at < length (S.units src) }
-    ensures character { IfSome result (λ scalar. IsCharacterAt (S.units src) at scalar) }
-    ensures none { IfNone result ((scalar : ℕ) → IsCharacterAt (S.units src) at scalar → ⊥) }
-{
-    let unit = src.unit_at(at);
-    if !is_surrogate(unit) {
-        return Some(u32::from(unit));
-    }
-    if is_high_surrogate(unit) && src.count() - at > 1 {
-        let next = src.unit_at(at + 1);
-        if is_low_surrogate(next) {
-            return Some(pair_scalar(unit, next));
-        }
-    }
-    None
 }
 
 /// Returns how many characters to convert one at a time before trying blocks: all if fewer than eight units are left, and

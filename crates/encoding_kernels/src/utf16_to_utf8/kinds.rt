@@ -160,26 +160,29 @@ fn convert_joined_run<S: CodeUnits, T: Block>(
         result.0 result.1 result.2 }
     ensures restored { due ≡ 0 → result.2 ≡ 0 }
 {
-    let mut read = 0;
-    let mut written = 0;
-    let mut spilled = due;
     let blocks_end = src.count().saturating_sub(STRIDE + SPILL - 1);
     let end = most.min(blocks_end);
     if end == 0 {
         return (0, 0, due);
     }
     let mut units = src.sixteen(0);
-    let mut fits = block.takes(units);
-    while fits {
+    if !block.takes(units) {
+        return (0, 0, due);
+    }
+    let mut read = 0;
+    let mut written = 0;
+    while read + STRIDE < end {
         let next = src.sixteen(read + STRIDE);
-        fits = read + STRIDE < end && block.takes(next);
-        let (bytes, spill) = block.convert(units, dst, written, !fits);
+        if !block.takes(next) {
+            break;
+        }
+        let (bytes, _) = block.convert(units, dst, written, false);
         units = next;
         read += STRIDE;
         written += bytes;
-        spilled = spill;
     }
-    (read, written, spilled)
+    let (bytes, spill) = block.convert(units, dst, written, true);
+    (read + STRIDE, written + bytes, spill)
 }
 
 /// Converts as `convert_run` does, by blocks that may change bytes after their own.

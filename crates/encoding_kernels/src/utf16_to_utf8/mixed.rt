@@ -153,23 +153,6 @@ pub(super) fn store_mixed(units: u16x16, dst: &mut [u8], at: usize) -> usize
     length_of_sixteen(units)
 }
 
-/// Writes the UTF-8 of sixteen code units but for its last `zeros` bytes, and returns its length. Bytes after it are
-/// read before the stores and written back.
-#[inline(always)]
-pub(super) fn write_mixed(units: u16x16, zeros: usize, dst: &mut [u8]) -> usize
-    requires dst_length { (length units ≡ 16) × (80 ≤ length dst.old) }
-    requires zeros { zeros ≤ 16 }
-    ensures count { result + zeros ≡ length (encode_utf8_all units) }
-    ensures bound { 16 ≤ result + zeros }
-    ensures written { WritesPrefix dst.old dst.new result (take result (encode_utf8_all units)) }
-{
-    let written = length_of_sixteen(units) - zeros;
-    let following = u8x32::from_slice(&dst[written..]);
-    store_mixed(units, dst, 0);
-    following.copy_to_slice(&mut dst[written..]);
-    written
-}
-
 /// Writes the UTF-8 of sixteen code units, and returns its length. The bytes after it are read before the stores and written
 /// back.
 #[inline(always)]
@@ -182,6 +165,23 @@ pub(super) fn write_sixteen(units: u16x16, dst: &mut [u8], at: usize) -> usize
     let following = u8x16::from_slice(&dst[end..]);
     let written = store_mixed(units, dst, at);
     following.copy_to_slice(&mut dst[end..]);
+    written
+}
+
+/// Writes the UTF-8 of sixteen code units but for its last `zeros` bytes, and returns its length. Bytes after it are
+/// read before the stores and written back.
+#[inline(always)]
+pub(super) fn write_mixed(units: u16x16, zeros: usize, dst: &mut [u8]) -> usize
+    requires dst_length { (length units ≡ 16) × (64 ≤ length dst.old) }
+    requires zeros { zeros ≤ 16 }
+    ensures count { result + zeros ≡ length (encode_utf8_all units) }
+    ensures bound { 16 ≤ result + zeros }
+    ensures written { WritesPrefix dst.old dst.new result (take result (encode_utf8_all units)) }
+{
+    let written = length_of_sixteen(units) - zeros;
+    let following = u8x16::from_slice(&dst[written..]);
+    write_sixteen(units, dst, 0);
+    following.copy_to_slice(&mut dst[written..]);
     written
 }
 

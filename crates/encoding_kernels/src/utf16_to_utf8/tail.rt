@@ -1,10 +1,10 @@
 //! Code units that no block takes: those at the end of a text or before a surrogate, and single characters. Nothing after
 //! the bytes that are written changes.
 
-ghost use Rattle.std.specs.Prelude.{◌≡◌, ◌+◌, ◌<◌, ◌≤◌, length, take, drop};
+ghost use Rattle.std.specs.Prelude.{◌≡◌, ◌+◌, ◌<◌, ◌≤◌, ℕ, length, take, drop, slice_index, IfSome, IfNone};
 ghost use Rattle.encoding_definitions.specs.Prefixes.{WritesPrefix};
 ghost use Rattle.encoding_definitions.specs.Utf16.{AreCodeUnits, IsUtf8OfPrefix};
-ghost use Rattle.encoding_kernels.specs.Utf8Output.{ConvertsPrefix, WritesBmp};
+ghost use Rattle.encoding_kernels.specs.Utf8Output.{ConvertsPrefix, IsCharacterAt, WritesBmp};
 ghost use Rattle.encoding_definitions.specs.FirstScalar.{IsFirstScalar};
 
 use super::mixed::{SPILL, non_surrogate_prefix, store_mixed, with_zeros, write_mixed};
@@ -18,25 +18,41 @@ use crate::utf16::source::CodeUnits;
 use std::simd::prelude::*;
 
 /// The number of bytes that sixteen code units may change, with those that are written back.
-const ROOM: usize = 80;
+const ROOM: usize = 64;
+
+/// Returns the scalar value of the character at index `at`, or `None` if an unpaired surrogate is there. A high surrogate at the end
+/// is unpaired.
+#[inline(always)]
+pub(super) fn character_at<S: CodeUnits>(src: S, at: usize) -> Option<u32>
+    requires { at < length (S.units src) }
+    ensures character { IfSome result (λ scalar. IsCharacterAt (S.units src) at scalar) }
+    ensures none { IfNone result ((scalar : ℕ) → IsCharacterAt (S.units src) at scalar → ⊥) }
+    ensures code_unit { slice_index (S.units src) at < 0x10000 }
+{
+    let unit = src.unit_at(at);
+    if !is_surrogate(unit) {
+        return Some(u32::from(unit));
+    }
+    if is_high_surrogate(unit) && src.count() - at > 1 {
+        let next = src.unit_at(at + 1);
+        if is_low_surrogate(next) {
+            return Some(pair_scalar(unit, next));
+        }
+    }
+    None
+}
 
 /// Returns the scalar value that is written for the first part of the code units from index `at` on.
+#[tactic(auto, using(crate::proofs::ScalarsLemmas::character_first, crate::proofs::ScalarsLemmas::unpaired_first))]
 #[inline(always)]
 pub fn scalar_at<S: CodeUnits>(src: S, at: usize) -> u32
     requires { at < length (S.units src) }
     ensures { IsFirstScalar (drop at (S.units src)) result }
 {
-    let unit = src.unit_at(at);
-    if !is_surrogate(unit) {
-        return u32::from(unit);
+    match character_at(src, at) {
+        Some(scalar) => scalar,
+        None => REPLACEMENT_CHARACTER,
     }
-    if is_high_surrogate(unit) && src.count() - at > 1 {
-        let next = src.unit_at(at + 1);
-        if is_low_surrogate(next) {
-            return pair_scalar(unit, next);
-        }
-    }
-    REPLACEMENT_CHARACTER
 }
 
 /// Converts those of the first sixteen code units that precede a surrogate, if they fit. Near the end of `dst` they are

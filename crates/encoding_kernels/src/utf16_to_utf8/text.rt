@@ -1,7 +1,7 @@
 //! UTF-8 of code units by blocks of sixteen: the calls for a whole text, and the loops over runs of one kind of blocks. A
 //! conversion of blocks returns how many code units it read and how many bytes it wrote.
 
-ghost use Rattle.std.specs.Prelude.{◌≡◌, ◌↔◌, ◌+◌, ◌*◌, ◌<◌, ◌≤◌, length, take, IsTrue};
+ghost use Rattle.std.specs.Prelude.{◌≡◌, ◌↔◌, ◌⊎◌, ◌+◌, ◌*◌, ◌<◌, ◌≤◌, length, take, IsTrue};
 ghost use Rattle.encoding_definitions.specs.Prefixes.{WritesPrefix};
 ghost use Rattle.encoding_definitions.specs.Utf16.{IsUtf8OfPrefix};
 ghost use Rattle.encoding_kernels.specs.Utf8Output.{ConvertsDue, ConvertsPrefix, WritesBmp, WritesScalars};
@@ -153,12 +153,14 @@ fn convert_dense_blocks<S: CodeUnits, const RESTORES: bool>(
     (read + more, written + extra)
 }
 
-/// Returns whether a block may begin with the code unit: it is neither ASCII nor a surrogate.
+/// Returns whether a block may begin with the first of the `left` code units: not if it is a surrogate, and only near the end if
+/// it is ASCII.
 #[inline(always)]
-fn begins_block(unit: u16) -> bool
-    ensures { IsTrue result ↔ ((0x80 ≤ unit) × ((0xD800 ≤ unit) × (unit ≤ 0xDFFF) → ⊥)) }
+fn begins_block(unit: u16, left: usize) -> bool
+    ensures { IsTrue result ↔ (((0xD800 ≤ unit) × (unit ≤ 0xDFFF) → ⊥)
+        × ((0x80 ≤ unit) ⊎ (left < 32))) }
 {
-    unit >= BASIC_LATIN_END && !is_surrogate(unit)
+    !is_surrogate(unit) && (unit >= BASIC_LATIN_END || left < STRIDE + SPILL)
 }
 
 /// Converts blocks of code units from the start of `src`, until ASCII or a surrogate is next. The last 31 units may
@@ -172,16 +174,14 @@ pub fn convert_blocks<S: CodeUnits, const RESTORES: bool>(src: S, dst: &mut [u8]
 {
     let mut read = 0;
     let mut written = 0;
-    while src.count() - read >= HALF_STRIDE
-        && (src.count() - read < STRIDE + SPILL || begins_block(src.unit_at(read)))
-    {
+    while src.count() - read >= HALF_STRIDE && begins_block(src.unit_at(read), src.count() - read) {
         let (dense, many) = convert_dense_blocks::<S, RESTORES>(
             src.skip(read),
             &mut dst[written..],
         );
         read += dense;
         written += many;
-        if src.count() - read >= STRIDE + SPILL && !begins_block(src.unit_at(read)) {
+        if read == src.count() || !begins_block(src.unit_at(read), src.count() - read) {
             break;
         }
         let (first, some) = convert_first_sixteen(src.skip(read), &mut dst[written..]);

@@ -2,13 +2,14 @@ use Rattle.std.proofs.Common.{◌-◌, ◌≤◌, take, length}
 use Rattle.encoding_definitions.specs.Prefixes.{WritesPrefix}
 use Rattle.encoding_kernels.specs.Scans.{BelowUpTo}
 use Rattle.encoding_kernels.specs.UnitBytes.{units_of}
+use Rattle.encoding_kernels.proofs.UnitBytesLemmas.{Copied}
 use Rattle.encoding_kernels.proofs.utf16.bytes.copy_ascii_units.Given as goal
 
 abbrev pub invariant-loop-dst : goal.invariant-loop-dst
 invariant-loop-dst l = record {
   within : l.at ≤ length l.dst;
   below : BelowUpTo 0x80 (units_of l.big l.src) l.at;
-  copied : WritesPrefix l.fn.dst l.dst l.at (take l.at (units_of l.big l.src));
+  copied : Copied l.fn.dst l.dst (units_of l.big l.src) l.at;
 }
 
 abbrev pub decreases-loop-dst : goal.decreases-loop-dst
@@ -18,7 +19,7 @@ abbrev pub invariant-loop-dst-2 : goal.invariant-loop-dst-2
 invariant-loop-dst-2 l = record {
   within : l.at ≤ length l.dst;
   below : BelowUpTo 0x80 (units_of l.big l.src) l.at;
-  copied : WritesPrefix l.fn.dst l.dst l.at (take l.at (units_of l.big l.src));
+  copied : Copied l.fn.dst l.dst (units_of l.big l.src) l.at;
 }
 
 abbrev pub decreases-loop-dst-2 : goal.decreases-loop-dst-2

@@ -30,24 +30,24 @@ returns-after-loop-read-clause-prefix g c =
     let us = g.S.CodeUnits.units c.args.src in
     converts_prefix us c.count.ensures.code_units c.loop-read.invariant.converted
 
-pub returns-then-not-begins_block-clause-prefix : goal.returns-then-not-begins_block-clause-prefix
-returns-then-not-begins_block-clause-prefix g c =
+pub returns-then-read-count-clause-prefix : goal.returns-then-read-count-clause-prefix
+returns-then-read-count-clause-prefix g c =
     let us = g.S.CodeUnits.units c.args.src in
     let units = c.count.ensures.code_units in
     let dense = c.convert_dense_blocks-dense.ensures.converted in
     let all = converts_more_from us units c.skip.ensures c.loop-read.invariant.converted dense in
     converts_prefix us units all
 
-pub returns-then-not-begins_block-clause-unchanged_after : goal.returns-then-not-begins_block-clause-unchanged_after
-returns-then-not-begins_block-clause-unchanged_after g c =
+pub returns-then-read-count-clause-unchanged_after : goal.returns-then-read-count-clause-unchanged_after
+returns-then-read-count-clause-unchanged_after g c =
     let us = g.S.CodeUnits.units c.args.src in
     let units = c.count.ensures.code_units in
     let dense = c.convert_dense_blocks-dense.ensures.converted in
     let all = converts_more_from us units c.skip.ensures c.loop-read.invariant.converted dense in
     converts_unchanged us units all
 
-pub returns-then-not-begins_block-clause-restored : goal.returns-then-not-begins_block-clause-restored
-returns-then-not-begins_block-clause-restored g c = λ t.
+pub returns-then-read-count-clause-restored : goal.returns-then-read-count-clause-restored
+returns-then-read-count-clause-restored g c = λ t.
     let dense = c.convert_dense_blocks-dense.ensures.restored t in
     bmp_more c.skip.ensures (c.loop-read.invariant.restored t) dense
 

@@ -1,6 +1,6 @@
 use Rattle.std.proofs.Common.{arith, refl}
 use Rattle.encoding_kernels.proofs.ScalarsLemmas.{pair_begins, unit_begins}
-use Rattle.encoding_kernels.proofs.utf16_to_utf8.bytes.character_at.Goals as goal
+use Rattle.encoding_kernels.proofs.utf16_to_utf8.tail.character_at.Goals as goal
 
 pub returns-then-not-is_surrogate-clause-character : goal.returns-then-not-is_surrogate-clause-character
 returns-then-not-is_surrogate-clause-character g c =
