@@ -297,6 +297,11 @@ pub ascii_written : (src old new : List ℕ) → IsAscii src → WritesPrefix ol
     → WritesPrefix old new (length src) (flat_map encode_utf16 (chars src))
 ascii_written src old new ascii w = subst (λ xs. WritesPrefix old new (length src) xs) (sym (ascii_text src ascii).1) w
 
+-- the prefix is the whole text
+pub of_whole_prefix : (src old new : List ℕ) (n written : ℕ) → take n src ≡ src → WritesPrefix old new written (flat_map encode_utf16 (chars src))
+    → WritesPrefix old new written (flat_map encode_utf16 (chars (take n src)))
+of_whole_prefix src old new n written all = subst (λ xs. WritesPrefix old new written (flat_map encode_utf16 (chars xs))) (sym all)
+
 -- ---- to UTF-16: an ASCII prefix more
 pub converted_ascii : (src old new sub : List ℕ) (read written n : ℕ) → ConvertsSome encode_utf16 src old new read written
     → IsLongestPrefix IsAscii (take (length (take (length new - written) (drop written new))) (take (length src - read) (drop read src))) n

@@ -19,6 +19,14 @@ use encoding_kernels::utf16_to_utf8::text::{convert_blocks, convert_paired_block
 /// The most bytes that a character has in UTF-8.
 const LONGEST: usize = 4;
 
+/// Returns whether the first code unit is ASCII. Text of other scripts seldom begins with it, and then no vector is tested.
+#[inline(always)]
+fn begins_with_ascii(src: &[u16]) -> bool
+    ensures { IsTrue result ↔ ((0 < length src.now) × (slice_index src.now 0 < 0x80)) }
+{
+    !src.is_empty() && src[0] < BASIC_LATIN_END
+}
+
 /// Copies the longest ASCII prefix that leaves three bytes of `dst` free, and returns its length.
 #[inline(always)]
 fn copy_ascii(src: &[u16], dst: &mut [u8]) -> usize
@@ -28,6 +36,9 @@ fn copy_ascii(src: &[u16], dst: &mut [u8]) -> usize
         → 0x80 ≤ slice_index src.now result }
     ensures copied { WritesPrefix dst.old dst.new result (take result src.now) }
 {
+    if !begins_with_ascii(src) {
+        return 0;
+    }
     let room = dst.len().saturating_sub(LONGEST - 1);
     match ascii::basic_latin_to_ascii(src, &mut dst[..room]) {
         Some((_, place)) => place,
@@ -48,7 +59,8 @@ fn copy_short_ascii(src: &[u16], dst: &mut [u8]) -> bool
         units: src,
         bound: BASIC_LATIN_END,
     };
-    src.len() <= UNIT_BLOCK
+    begins_with_ascii(src)
+        && src.len() <= UNIT_BLOCK
         && src.len() <= dst.len().saturating_sub(LONGEST - 1)
         && write_short::<UNIT_BLOCK, _, _>(&ascii, src.len(), dst)
 }
@@ -76,6 +88,9 @@ fn convert_prefix_and_blocks(src: &[u16], dst: &mut [u8]) -> (usize, usize, bool
     ensures progress { IsTrue result.2 → 0 < result.0 }
 {
     let prefix = copy_ascii(src, dst);
+    if prefix == src.len() {
+        return (prefix, prefix, false);
+    }
     let following = Units {
         src: &src[prefix..],
     };

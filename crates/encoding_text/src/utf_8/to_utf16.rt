@@ -6,7 +6,7 @@ ghost use Rattle.std.proofs.lemmas.Str.{length-encode, len_utf8_bounds};
 ghost use Rattle.std.specs.List.{flat_map};
 ghost use Rattle.std.specs.Char.{IsScalar};
 ghost use Rattle.std.specs.Char.Escape.{encode_utf16};
-ghost use Rattle.std.specs.Str.{IsUtf8, chars};
+ghost use Rattle.std.specs.Str.{IsAscii, IsUtf8, chars};
 ghost use Rattle.encoding_definitions.specs.Prefixes.{WritesPrefix};
 ghost use Rattle.encoding_definitions.specs.Converting.{ConvertsMaximal};
 ghost use Rattle.encoding_text.specs.Steps.{ConvertsUntilFull};
@@ -81,18 +81,15 @@ impl CodeUnit for u8 {
     }
 }
 
-/// Converts at most 64 bytes to UTF-16 as `convert_utf8_to_utf16_up_to_invalid` does, if `dst` is at least as long. Two vectors
-/// copy ASCII. Otherwise the longest well-formed prefix of at least eight bytes is found first, and then converted.
-#[inline(always)]
-fn convert_short_prefix(src: &[u8], dst: &mut [u16]) -> (usize, usize)
+/// Converts at most 64 bytes to UTF-16 as `convert_utf8_to_utf16_up_to_invalid` does, if `dst` is at least as long. The longest
+/// well-formed prefix of at least eight bytes is found first, and then converted. Out of line, so that ASCII needs few registers.
+#[inline(never)]
+fn convert_short_beyond_ascii(src: &[u8], dst: &mut [u16]) -> (usize, usize)
+    requires other { IsAscii src.now → ⊥ }
     requires src_length { length src.now ≤ 64 }
     requires dst_length { length src.now ≤ length dst.old }
     ensures { ConvertsMaximal encode_utf16 src.now dst.old dst.new result.0 result.1 }
 {
-    let bound = ASCII_END;
-    if write_short::<SHORT, _, _>(&BytesBelow { bytes: src, bound }, src.len(), dst) {
-        return (src.len(), src.len());
-    }
     if src.len() < LEAST_FOR_VECTORS {
         return convert_after_ascii(src, dst);
     }
@@ -102,11 +99,11 @@ fn convert_short_prefix(src: &[u8], dst: &mut [u16]) -> (usize, usize)
     }
     // before a malformed sequence there is often only ASCII
     let text = &src[..valid];
-    let written = if write_short::<SHORT, _, _>(
-        &BytesBelow { bytes: text, bound },
-        text.len(),
-        dst,
-    ) {
+    let ascii = BytesBelow {
+        bytes: text,
+        bound: ASCII_END,
+    };
+    let written = if write_short::<SHORT, _, _>(&ascii, text.len(), dst) {
         valid
     } else {
         convert_short(text, dst)
@@ -197,13 +194,20 @@ fn convert_after_ascii(src: &[u8], dst: &mut [u16]) -> (usize, usize)
 }
 
 /// Converts UTF-8 to UTF-16 up to the first byte that is in no character, or as far as whole characters fit. Returns
-/// how many bytes it read and how many code units it wrote. `dst` may have any length.
+/// how many bytes it read and how many code units it wrote. `dst` may have any length. Two vectors copy short ASCII.
 #[inline(always)]
 pub fn convert_utf8_to_utf16_up_to_invalid(src: &[u8], dst: &mut [u16]) -> (usize, usize)
     ensures { ConvertsMaximal encode_utf16 src.now dst.old dst.new result.0 result.1 }
 {
     if src.len() <= SHORT && src.len() <= dst.len() {
-        return convert_short_prefix(src, dst);
+        let ascii = BytesBelow {
+            bytes: src,
+            bound: ASCII_END,
+        };
+        if write_short::<SHORT, _, _>(&ascii, src.len(), dst) {
+            return (src.len(), src.len());
+        }
+        return convert_short_beyond_ascii(src, dst);
     }
     convert_after_ascii(src, dst)
 }
