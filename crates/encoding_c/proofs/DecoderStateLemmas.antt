@@ -7,7 +7,7 @@ use Rattle.encoding_streams.specs.declared.encoding.BomHandling.TheVariants.{Off
 use Rattle.encoding_streams.specs.Marks.{IsUndecided, begins_mark}
 use Rattle.encoding_streams.specs.Decoders.{DecoderState}
 use Rattle.encoding_c.specs.declared.stream_decoder.EncodingDecoder.{EncodingDecoder}
-use Rattle.encoding_c.specs.DecoderStates.{IsEncodingNumber, IsBomNumber, IsValidDecoderState, RepresentsDecoder}
+use Rattle.encoding_c.specs.DecoderStates.{IsEncodingNumber, IsBomNumber, RepresentsDecoder}
 
 by_begin : (b : BomHandling) (e : Encoding) (bs : List ℕ) → (b ≡ Off → ⊥) → (begins : Bool) → begins_mark b e bs ≡ begins
     → IsUndecided b e bs ⊎ (IsUndecided b e bs → ⊥)

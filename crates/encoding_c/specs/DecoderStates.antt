@@ -1,5 +1,5 @@
 -- What the storage of a decoder with byte order marks represents between two calls, and the numbers that a call returns.
-use Rattle.std.specs.Prelude.{◌≡◌, ℕ, ◌<◌, ◌≤◌, List, [], take}
+use Rattle.std.specs.Prelude.{◌≡◌, ℕ, ◌<◌, ◌≤◌, [], take}
 use Rattle.encoding_streams.specs.declared.encoding.Encoding.{Encoding}
 use Rattle.encoding_streams.specs.declared.encoding.Encoding.TheVariants.{Utf8, Utf16Le, Utf16Be}
 use Rattle.encoding_streams.specs.declared.encoding.BomHandling.{BomHandling}

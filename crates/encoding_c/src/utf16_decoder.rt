@@ -55,16 +55,17 @@ fn is_all_read(ended: &DecoderResult) -> bool
     matches!(ended, DecoderResult::InputEmpty)
 }
 
-/// Returns the decoder that the storage represents.
+/// Returns the decoder that the storage represents, if its count isn't 0.
+#[inline(never)]
 #[tactic(auto, using(crate::proofs::Utf16StateLemmas::pending_again))]
-pub(crate) fn restored(state: EncodingUtf16Decoder) -> Utf16Decoder
+fn restored_pending(state: EncodingUtf16Decoder) -> Utf16Decoder
     ensures stands { RepresentsUtf16 state result }
     ensures prefix { result.pending ≡ take (length result.pending) state.pending }
     ensures at_most_three { length result.pending ≤ 3 }
 {
     let order = byte_order(state.big_endian);
     let mut decoder = Utf16Decoder::new(order);
-    if state.count == 0 || state.count > MAX_PENDING {
+    if state.count > MAX_PENDING {
         return decoder;
     }
     let count = usize::from(state.count);
@@ -73,6 +74,19 @@ pub(crate) fn restored(state: EncodingUtf16Decoder) -> Utf16Decoder
         return decoder;
     }
     Utf16Decoder::new(order)
+}
+
+/// Returns the decoder that the storage represents. In most calls nothing is pending, and then no call is needed.
+#[inline(always)]
+pub(crate) fn restored(state: EncodingUtf16Decoder) -> Utf16Decoder
+    ensures stands { RepresentsUtf16 state result }
+    ensures prefix { result.pending ≡ take (length result.pending) state.pending }
+    ensures at_most_three { length result.pending ≤ 3 }
+{
+    if state.count == 0 {
+        return Utf16Decoder::new(byte_order(state.big_endian));
+    }
+    restored_pending(state)
 }
 
 /// Returns the number of pending bytes.
@@ -93,25 +107,30 @@ pub(crate) fn pending_count(decoder: &Utf16Decoder) -> usize
     }
 }
 
-/// Returns the storage of a decoder. Its pending bytes are the last ones of `pending`, the bytes pending before its
-/// call, followed by `read`.
-fn stored(
+/// Stores a decoder after its call. Its pending bytes are the last ones of the `pending_length` bytes pending before the call,
+/// followed by `read`. In most calls nothing is pending before and after, and then the storage stays as it is.
+#[inline(always)]
+fn store(
+    storage: &mut EncodingUtf16Decoder,
     decoder: &Utf16Decoder,
-    big_endian: u8,
-    pending: &[u8],
+    pending_length: usize,
     read: &[u8],
-) -> EncodingUtf16Decoder
-    requires order { IsByteOrder big_endian decoder.now.order }
-    requires ends { EndsWith (pending.now ++ read.now) decoder.now.pending }
-    requires at_most_three { length pending.now ≤ 3 }
-    ensures { RepresentsUtf16 result decoder.now }
+)
+    requires order { IsByteOrder storage.old.big_endian decoder.now.order }
+    requires at_most_three { pending_length ≤ 3 }
+    requires ends { EndsWith
+        (take pending_length storage.old.pending ++ read.now) decoder.now.pending }
+    ensures { RepresentsUtf16 storage.new decoder.now }
 {
     let count = pending_count(decoder);
-    EncodingUtf16Decoder {
-        pending: last_bytes(pending, read, count),
-        count: count as u8,
-        big_endian,
+    if storage.count == 0 && count == 0 {
+        return;
     }
+    *storage = EncodingUtf16Decoder {
+        pending: last_bytes(&storage.pending[..pending_length], read, count),
+        count: count as u8,
+        big_endian: storage.big_endian,
+    };
 }
 
 /// Returns the result of a call as numbers.
@@ -236,16 +255,10 @@ pub extern "C" fn encoding_text_utf16_decoder_decode_to_utf16(
     ensures progress { 0 < length src.now → 2 ≤ length dst.old
         → (0 < result.read) ⊎ (result.result ≡ 2) }
 {
-    let before = *decoder;
-    let mut inner = restored(before);
+    let mut inner = restored(*decoder);
     let pending_length = pending_count(&inner);
     let (ended, read, written) = inner.decode_to_utf16_raw(src, dst, last);
-    *decoder = stored(
-        &inner,
-        before.big_endian,
-        &before.pending[..pending_length],
-        &src[..read],
-    );
+    store(decoder, &inner, pending_length, &src[..read]);
     decoded(ended, read, written)
 }
 
@@ -267,15 +280,9 @@ pub extern "C" fn encoding_text_utf16_decoder_decode_to_utf8(
     ensures progress { 0 < length src.now → 4 ≤ length dst.old
         → (0 < result.read) ⊎ (result.result ≡ 2) }
 {
-    let before = *decoder;
-    let mut inner = restored(before);
+    let mut inner = restored(*decoder);
     let pending_length = pending_count(&inner);
     let (ended, read, written) = inner.decode_to_utf8_raw(src, dst, last);
-    *decoder = stored(
-        &inner,
-        before.big_endian,
-        &before.pending[..pending_length],
-        &src[..read],
-    );
+    store(decoder, &inner, pending_length, &src[..read]);
     decoded(ended, read, written)
 }

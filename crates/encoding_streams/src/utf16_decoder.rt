@@ -108,6 +108,7 @@ impl Utf16Decoder {
     /// the sequence: two bytes, or one to three at the end of the input. The second is the number of bytes read after
     /// the sequence, at most one, which stay pending. To continue, write U+FFFD and pass the unread bytes again. If
     /// `dst` has at least two code units and `src` isn't empty, a call reads at least one byte or returns `Malformed`.
+    #[inline(always)]
     pub fn decode_to_utf16_raw(
         &mut self,
         src: &[u8],
@@ -139,6 +140,7 @@ impl Utf16Decoder {
     /// the sequence: two bytes, or one to three at the end of the input. The second is the number of bytes read after
     /// the sequence, at most one, which stay pending. To continue, write U+FFFD and pass the unread bytes again. If
     /// `dst` has at least four bytes and `src` isn't empty, a call reads at least one byte or returns `Malformed`.
+    #[inline(always)]
     pub fn decode_to_utf8_raw(
         &mut self,
         src: &[u8],
@@ -166,6 +168,7 @@ impl Utf16Decoder {
 
 /// Decodes `src` after the pending bytes. Returns what ended the call, how many bytes it read and how many code units
 /// it wrote.
+#[inline(always)]
 fn decode<U: CodeUnit>(
     order: ByteOrder,
     pending: &mut Pending,

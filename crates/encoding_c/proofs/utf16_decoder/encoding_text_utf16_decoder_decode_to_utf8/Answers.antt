@@ -4,8 +4,8 @@ use Rattle.encoding_c.specs.States.{EndsWith}
 use Rattle.encoding_c.proofs.Utf16StateLemmas.{call_ends}
 use Rattle.encoding_c.proofs.utf16_decoder.encoding_text_utf16_decoder_decode_to_utf8.Goals as goal
 
-pub stored-requires-clause-ends : goal.stored-requires-clause-ends
-stored-requires-clause-ends c =
+pub store-requires-clause-ends : goal.store-requires-clause-ends
+store-requires-clause-ends c =
     let s = c.decode_to_utf8_raw-ended.ensures in
     let before = c.restored-inner.result in
     let prefix : take c.pending_count-pending_length.result c.args.decoder.now.pending ≡ before.pending =
@@ -22,7 +22,7 @@ returns-clause-call c =
       done = c.decode_to_utf8_raw-ended.result.0;
       q = c.decode_to_utf8_raw-ended.new.self;
       stood = c.restored-inner.ensures.stands;
-      stands = c.stored.ensures;
+      stands = c.store.ensures;
       reported = d.reported;
       says = (s.order, rw (d.counts.0, d.counts.1) (s.call, s.suffices, s.suffices_replacing));
     }

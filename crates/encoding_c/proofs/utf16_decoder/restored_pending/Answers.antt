@@ -4,7 +4,7 @@ use Rattle.encoding_streams.specs.Utf16Parts.{IsPendingUtf16}
 use Rattle.encoding_streams.specs.Utf16Decoding.{DecodeUtf16StepInto, Utf16State}
 use Rattle.encoding_c.specs.States.{RepresentsUtf16}
 use Rattle.encoding_c.proofs.Utf16StateLemmas.{pending_again}
-use Rattle.encoding_c.proofs.utf16_decoder.restored.Goals as goal
+use Rattle.encoding_c.proofs.utf16_decoder.restored_pending.Goals as goal
 
 pub returns-clause-stands : goal.returns-clause-stands
 returns-clause-stands c =
