@@ -2,17 +2,19 @@
 use Rattle.std.proofs.Common.{◌≡◌, ℕ, ◌+◌, ◌-◌, ◌<◌, ◌≤◌, Bool, true, false, List, [], ◌∷◌, ◌++◌, length, map, take, drop, set, encode_utf8_all, refl, sym, ap, ◌∙◌, arith, subst}
 use Rattle.std.specs.Char.Escape.{encode_utf16}
 use Rattle.std.specs.List.{flat_map}
-use Rattle.std.proofs.lemmas.List.{append-nil, append_assoc, length-append, length-drop, length-take, take_rest, drop-drop, drop_all}
+use Rattle.std.proofs.lemmas.List.{append-nil, append_assoc, length-append, length-drop, length-take, take_all, take_rest, take-append-drop, drop-drop, drop_all}
 use Rattle.std.proofs.lemmas.List.Folds.{flat_map-map}
 use Rattle.std.proofs.lemmas.Grind.{flat_map-append}
 use borrow.Rule.Slice.PartMut.{put_mid}
 use Rattle.encoding_definitions.specs.Parts.{Part, Character, IllFormed, StartsWith, ArePartsOf, Yields, lossy_scalar, lossy_utf16, malformed_count}
 use Rattle.encoding_definitions.specs.Prefixes.{WritesPrefix}
 use Rattle.encoding_text.specs.Decoding.{DecodeStepInto, IsReported}
+use Rattle.encoding_text.specs.Steps.{ConvertsUntilFull}
 use Rattle.encoding_text.specs.declared.decoder.DecoderResult.{DecoderResult}
 use Rattle.encoding_text.specs.declared.decoder.DecoderResult.TheVariants.{InputEmpty, Malformed}
 use Rattle.encoding_text.proofs.CallLemmas.{decoded_yields, malformed_some}
-use Rattle.encoding_definitions.proofs.DecompositionLemmas.{StartsWith-append, malformed_count-append, malformed_count-characters}
+use Rattle.encoding_definitions.proofs.DecompositionLemmas.{StartsWith-append, StartsWith-characters, malformed_count-append, malformed_count-characters}
+use Rattle.encoding_definitions.proofs.EncodingLemmas.{length-utf16}
 use Rattle.encoding_definitions.proofs.PrefixesLemmas.{WritesPrefix-length, WritesPrefix-same, WritesPrefix_after, WritesPrefix_push}
 
 -- what a call yields, and what the next one yields of the rest
@@ -131,3 +133,34 @@ repaired_length new sub written units out w l =
     let kept : length sub ≡ length (take (length new - written) (drop written new)) = WritesPrefix-length _ _ _ _ w in
     let size : length (take (length new - written) (drop written new)) ≡ length new - written = ap length (take_rest new written) ∙ length-drop written new in
     omega (arith, kept, size, l, length-append {A = ℕ}, length-take {A = ℕ}, length-drop {A = ℕ})
+
+-- ---- the characters before the first malformed sequence
+-- they are all of the source
+pub characters_all : (src old new : List ℕ) (read written : ℕ) → ConvertsUntilFull encode_utf16 src old new read written → read ≡ length src
+    → (parts : List Part) × ArePartsOf src parts × WritesPrefix old new written (lossy_utf16 parts)
+characters_all src old new read written d all =
+    let text : encode_utf8_all d.scalars ++ [] ≡ src = append-nil (encode_utf8_all d.scalars) ∙ d.spelled ∙ take_all read src (omega (arith, all)) in (
+      map Character d.scalars,
+      subst (λ xs. ArePartsOf xs (map Character d.scalars)) text (StartsWith-characters d.scalars [] d.are_scalars),
+      subst (λ xs. WritesPrefix old new written xs) (sym (lossy-characters encode_utf16 d.scalars)) d.writes,
+    )
+
+-- the parts of the rest follow them
+pub characters_then : (src old new sub : List ℕ) (read written units : ℕ) → ConvertsUntilFull encode_utf16 src old new read written
+    → (rest : List Part) × ArePartsOf (drop read src) rest × WritesPrefix (take (length new - written) (drop written new)) sub units (lossy_utf16 rest)
+    → (parts : List Part) × ArePartsOf src parts × WritesPrefix old (put_mid written (length new - written) new sub) (written + units) (lossy_utf16 parts)
+characters_then src old new sub read written units d (rest, are, w) =
+    let text : encode_utf8_all d.scalars ++ drop read src ≡ src = ap (λ xs. xs ++ drop read src) d.spelled ∙ take-append-drop read src in
+    let first : List Part = map Character d.scalars in (
+      first ++ rest,
+      subst (λ xs. ArePartsOf xs (first ++ rest)) text
+          (StartsWith-append _ first (drop read src) rest [] (StartsWith-characters d.scalars (drop read src) d.are_scalars) are),
+      WritesPrefix-same _ _ _ _ _ _ (WritesPrefix_after old new written (flat_map encode_utf16 d.scalars) sub units (lossy_utf16 rest) d.writes w) refl
+          (ap (λ xs. xs ++ lossy_utf16 rest) (sym (lossy-characters encode_utf16 d.scalars)) ∙ sym (lossy-append encode_utf16 first rest)),
+    )
+
+-- they take no more code units than bytes
+pub characters_short : (src old new : List ℕ) (read written : ℕ) → ConvertsUntilFull encode_utf16 src old new read written
+    → (written ≤ read) × (length new ≡ length old)
+characters_short src old new read written d =
+    (omega (arith, d.writes.count, length-utf16 d.scalars d.are_scalars, ap length d.spelled, length-take read src), WritesPrefix-length _ _ _ _ d.writes)

@@ -17,11 +17,9 @@ use encoding_kernels::simd::scan::BytesBelow;
 use encoding_kernels::simd::width::ASCII_END;
 use encoding_kernels::utf8_to_utf16::text::convert_short;
 
-/// Converts bytes to UTF-16, with U+FFFD for each malformed sequence, and returns how many code units it wrote.
-/// Encoding Standard, UTF-8 decode without BOM.
-///
-/// `dst` has at least one code unit more than `src` has bytes.
-pub fn convert_utf8_to_utf16(src: &[u8], dst: &mut [u16]) -> usize
+/// Converts bytes to UTF-16 as `convert_utf8_to_utf16` does, by a decoder. Out of line, so that well-formed text needs few registers.
+#[inline(never)]
+fn convert_with_replacement(src: &[u8], dst: &mut [u16]) -> usize
     requires dst_length { length src.now < length dst.old }
     ensures { (parts : List Part) × ArePartsOf src.now parts × WritesPrefix dst.old dst.new result
         (lossy_utf16 parts) }
@@ -46,6 +44,22 @@ pub fn convert_utf8_to_utf16(src: &[u8], dst: &mut [u16]) -> usize
             }
         }
     }
+}
+
+/// Converts bytes to UTF-16, with U+FFFD for each malformed sequence, and returns how many code units it wrote.
+/// Encoding Standard, UTF-8 decode without BOM.
+///
+/// `dst` has at least one code unit more than `src` has bytes.
+pub fn convert_utf8_to_utf16(src: &[u8], dst: &mut [u16]) -> usize
+    requires dst_length { length src.now < length dst.old }
+    ensures { (parts : List Part) × ArePartsOf src.now parts × WritesPrefix dst.old dst.new result
+        (lossy_utf16 parts) }
+{
+    let (read, written) = convert_utf8_to_utf16_up_to_invalid(src, dst);
+    if read == src.len() {
+        return written;
+    }
+    written + convert_with_replacement(&src[read..], &mut dst[written..])
 }
 
 /// Converts a text of more than 64 bytes to UTF-16, and returns how many code units it wrote. Out of line, so that a short text

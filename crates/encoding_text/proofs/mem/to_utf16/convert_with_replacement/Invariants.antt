@@ -1,6 +1,6 @@
 use Rattle.std.proofs.Common.{◌≡◌, ◌+◌, ◌-◌, ◌<◌, [], length}
 use Rattle.encoding_text.proofs.RepairingLemmas.{RepairedSome}
-use Rattle.encoding_text.proofs.mem.to_utf16.convert_utf8_to_utf16.Given as goal
+use Rattle.encoding_text.proofs.mem.to_utf16.convert_with_replacement.Given as goal
 
 abbrev pub invariant-loop-dst : goal.invariant-loop-dst
 invariant-loop-dst l = record {
