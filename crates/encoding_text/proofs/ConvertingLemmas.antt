@@ -343,6 +343,12 @@ whole_fits src old new read written d l = elim (cases_lt d.longest.count (length
       (taken ∙ ap length (flat_map-encode_utf8 d.scalars) ∙ text_length src d.scalars d.text, subst (λ xs. WritesPrefix old new written xs) out d.writes)
 ]
 
+-- what follows them begins with no character
+pub none_after : (src old new : List ℕ) (read written : ℕ) → ConvertsMaximal encode_utf16 src old new read written → length src ≤ length old
+    → BeginsWithNoCharacter (drop read src)
+none_after src old new read written d l =
+    subst (λ n. BeginsWithNoCharacter (drop n src)) (sym (whole_fits src old new read written d l).0) (no_character_after src d.text.valid d.text.prefix)
+
 -- of bytes, which are a text if and only if all of them are read
 pub text_prefix : (src old new : List ℕ) (read written : ℕ) → ConvertsMaximal encode_utf16 src old new read written → length src ≤ length old
     → WritesText src old new written

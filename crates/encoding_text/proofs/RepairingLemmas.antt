@@ -1,18 +1,18 @@
 -- Calls of a decoder and U+FFFD in turn: what is written is the text of the first parts of the source.
-use Rattle.std.proofs.Common.{◌≡◌, ℕ, ◌+◌, ◌-◌, ◌<◌, ◌≤◌, Bool, true, false, List, [], ◌∷◌, ◌++◌, length, map, take, drop, set, encode_utf8_all, refl, sym, ap, ◌∙◌, arith, subst}
+use Rattle.std.proofs.Common.{◌≡◌, ℕ, ◌+◌, ◌-◌, ◌<◌, ◌≤◌, Bool, true, false, List, [], ◌∷◌, ◌++◌, length, map, take, drop, set, refl, sym, ap, ◌∙◌, arith, subst}
 use Rattle.std.specs.Char.Escape.{encode_utf16}
 use Rattle.std.specs.List.{flat_map}
-use Rattle.std.proofs.lemmas.List.{append-nil, append_assoc, length-append, length-drop, length-take, take_all, take_rest, take-append-drop, drop-drop, drop_all}
+use Rattle.std.proofs.lemmas.List.{append-nil, append_assoc, length-append, length-drop, length-take, take_rest, take-append-drop, drop-drop}
 use Rattle.std.proofs.lemmas.List.Folds.{flat_map-map}
 use Rattle.std.proofs.lemmas.Grind.{flat_map-append}
 use borrow.Rule.Slice.PartMut.{put_mid}
-use Rattle.encoding_definitions.specs.Parts.{Part, Character, IllFormed, StartsWith, ArePartsOf, Yields, lossy_scalar, lossy_utf16, malformed_count}
+use Rattle.encoding_definitions.specs.Parts.{Part, Character, IllFormed, IsFirstPart, StartsWith, ArePartsOf, Yields, lossy_scalar, lossy_utf16, malformed_count}
 use Rattle.encoding_definitions.specs.Prefixes.{WritesPrefix}
-use Rattle.encoding_text.specs.Decoding.{DecodeStepInto, IsReported}
+use Rattle.encoding_text.specs.Decoding.{DecodeStepInto, IsMalformed, IsReported}
 use Rattle.encoding_text.specs.Steps.{ConvertsUntilFull}
 use Rattle.encoding_text.specs.declared.decoder.DecoderResult.{DecoderResult}
-use Rattle.encoding_text.specs.declared.decoder.DecoderResult.TheVariants.{InputEmpty, Malformed}
-use Rattle.encoding_text.proofs.CallLemmas.{decoded_yields, malformed_some}
+use Rattle.encoding_text.specs.declared.decoder.DecoderResult.TheVariants.{Malformed}
+use Rattle.encoding_text.proofs.CallLemmas.{decoded_yields, malformed_first}
 use Rattle.encoding_definitions.proofs.DecompositionLemmas.{StartsWith-append, StartsWith-characters, malformed_count-append, malformed_count-characters}
 use Rattle.encoding_definitions.proofs.EncodingLemmas.{length-utf16}
 use Rattle.encoding_definitions.proofs.PrefixesLemmas.{WritesPrefix-length, WritesPrefix-same, WritesPrefix_after, WritesPrefix_push}
@@ -89,41 +89,77 @@ module _ {A : Type 0} (encode : ℕ → List A) where
         malformed = omega (arith, d.malformed, malformed_count-append d.parts (IllFormed x ∷ []));
       }
 
--- ---- all of a source, to UTF-16
--- what is written with nothing pending
-abbrev pub RepairedSome : List ℕ → List ℕ → List ℕ → ℕ → ℕ → Type 0
-RepairedSome src old new read written = (replaced : ℕ) × Repaired encode_utf16 [] src true old new read written replaced [] []
+-- ---- whole sources, to UTF-16: in turn characters, and U+FFFD for a malformed sequence
+-- the first parts are written
+pub record ReplacedSome (src old new : List ℕ) (read written : ℕ) : Type 0 where
+  pub parts : List Part
+  pub first : StartsWith src parts (drop read src)
+  pub writes : WritesPrefix old new written (lossy_utf16 parts)
 
--- the last call of all
-pub repaired_all : (src old new sub : List ℕ) (read written more units : ℕ) (q : List ℕ) → RepairedSome src old new read written
-    → DecodeStepInto encode_utf16 2 [] (drop read src) (take (length new - written) (drop written new)) sub true InputEmpty more units q
-    → (parts : List Part) × ArePartsOf src parts × WritesPrefix old (put_mid written (length new - written) new sub) (written + units) (lossy_utf16 parts)
-repaired_all src old new sub read written more units q (replaced, d) (out, w, call) =
-    let (reported, is, r) = repaired_more encode_utf16 2 [] src true old new sub read written replaced [] more units q InputEmpty d (out, w, call) in
-    let none : q ++ drop (read + more) src ≡ [] =
-    ap (λ xs. xs ++ drop (read + more) src) (call.answer.2 refl) ∙ drop_all (read + more) src (omega (arith, call.answer.0, length-drop read src)) in
-    let all : r.parts ++ reported ≡ r.parts = ap (λ ps. r.parts ++ ps) is ∙ append-nil r.parts in
-    (r.parts, subst (λ xs. StartsWith src r.parts xs) none (subst (λ ps. StartsWith src ps (q ++ drop (read + more) src)) all r.yielded.first), r.writes)
+-- characters are first parts
+are_first : {A : Type 0} (encode : ℕ → List A) (src : List ℕ) (old new : List A) (read written : ℕ) → (d : ConvertsUntilFull encode src old new read written)
+    → StartsWith src (map Character d.scalars) (drop read src)
+are_first encode src old new read written d =
+    subst (λ xs. StartsWith xs (map Character d.scalars) (drop read src)) (ap (λ xs. xs ++ drop read src) d.spelled ∙ take-append-drop read src)
+    (StartsWith-characters d.scalars (drop read src) d.are_scalars)
 
--- a call that reports, and U+FFFD after its characters
-pub repaired_unit : (src old new sub : List ℕ) (read written k second more units : ℕ) (q : List ℕ) → RepairedSome src old new read written
-    → DecodeStepInto encode_utf16 2 [] (drop read src) (take (length new - written) (drop written new)) sub true (Malformed k second) more units q
-    → written + units < length old
-    → RepairedSome src old (set (put_mid written (length new - written) new sub) (written + units) 0xFFFD) (read + more) (written + units + 1)
-repaired_unit src old new sub read written k second more units q (replaced, d) call room =
-    let (reported, is, r) = repaired_more encode_utf16 2 [] src true old new sub read written replaced [] more units q (Malformed k second) d call in
-    let pushed = WritesPrefix_push old _ (written + units) (lossy_utf16 r.parts) 0xFFFD r.writes (omega (arith, room, WritesPrefix-length _ _ _ _ r.writes)) in
-    let after = set (put_mid written (length new - written) new sub) (written + units) 0xFFFD in
-    let end = written + units + 1 in
-    let report = repaired_report encode_utf16 [] src true old _ after (read + more) (written + units) end replaced k second q reported r is pushed in
-    (replaced + 1, subst (λ xs. Repaired encode_utf16 [] src true old after (read + more) end (replaced + 1) xs []) call.2.answer.5 report)
+-- the characters at the start of the source
+pub replaced_first : (src old new : List ℕ) (read written : ℕ) → ConvertsUntilFull encode_utf16 src old new read written
+    → ReplacedSome src old new read written
+replaced_first src old new read written d = record {
+  parts = map Character d.scalars;
+  first = are_first encode_utf16 src old new read written d;
+  writes = subst (λ xs. WritesPrefix old new written xs) (sym (lossy-characters encode_utf16 d.scalars)) d.writes;
+}
 
--- such a call reads a byte
-pub reads_some : (src old new : List ℕ) (k second more units : ℕ) (q : List ℕ)
-    → DecodeStepInto encode_utf16 2 [] src old new true (Malformed k second) more units q → (0 < more) × (more ≤ length src) × (q ≡ [])
-reads_some src old new k second more units q (out, w, call) =
-    let a = call.answer in
-    (omega (arith, ap length a.3, length-append (encode_utf8_all call.scalars) a.0, length-take more src, malformed_some a.0 _ true a.6), a.2, a.5)
+-- other parts after them
+pub replaced_then : (src old new sub : List ℕ) (read written units : ℕ) (rest : List Part) (left : List ℕ) → ReplacedSome src old new read written
+    → StartsWith (drop read src) rest left → WritesPrefix (take (length new - written) (drop written new)) sub units (lossy_utf16 rest)
+    → (parts : List Part) × StartsWith src parts left × WritesPrefix old (put_mid written (length new - written) new sub) (written + units) (lossy_utf16 parts)
+replaced_then src old new sub read written units rest left d are w = (
+  d.parts ++ rest,
+  StartsWith-append src d.parts (drop read src) rest left d.first are,
+  WritesPrefix-same _ _ _ _ _ _ (WritesPrefix_after old new written (lossy_utf16 d.parts) sub units (lossy_utf16 rest) d.writes w) refl
+      (sym (lossy-append encode_utf16 d.parts rest)),
+)
+
+-- more characters
+pub replaced_characters : (src old new sub : List ℕ) (read written n m : ℕ) → ReplacedSome src old new read written
+    → ConvertsUntilFull encode_utf16 (drop read src) (take (length new - written) (drop written new)) sub n m
+    → ReplacedSome src old (put_mid written (length new - written) new sub) (read + n) (written + m)
+replaced_characters src old new sub read written n m d e =
+    let more = replaced_first (drop read src) (take (length new - written) (drop written new)) sub n m e in
+    let all = replaced_then src old new sub read written m more.parts (drop (read + n) src) d
+    (subst (λ xs. StartsWith (drop read src) more.parts xs) (drop-drop n read src) more.first) more.writes in
+    record { parts = all.0; first = all.1; writes = all.2 }
+
+-- U+FFFD for one more malformed sequence
+pub replaced_malformed : (src old new : List ℕ) (read written n : ℕ) → ReplacedSome src old new read written → written < length new
+    → IsMalformed (take n (drop read src)) (drop n (drop read src)) true
+    → ReplacedSome src old (set new written 0xFFFD) (read + n) (written + 1)
+replaced_malformed src old new read written n d room malformed =
+    let x = take n (drop read src) in
+    let rest = drop n (drop read src) in
+    let part : List Part = IllFormed x ∷ [] in
+    let is : IsFirstPart (drop read src) (IllFormed x) rest =
+    subst (λ xs. IsFirstPart xs (IllFormed x) rest) (take-append-drop n (drop read src)) (malformed_first x rest true malformed) in
+    record {
+      parts = d.parts ++ part;
+      first = StartsWith-append src d.parts (drop read src) part (drop (read + n) src) d.first (rest, is, drop-drop n read src);
+      writes = WritesPrefix-same _ _ _ _ _ _ (WritesPrefix_push old new written (lossy_utf16 d.parts) 0xFFFD d.writes room) refl
+          (sym (lossy-append encode_utf16 d.parts part));
+    }
+
+-- nothing is left
+pub replaced_all : (src old new : List ℕ) (read written : ℕ) → ReplacedSome src old new read written → drop read src ≡ []
+    → (parts : List Part) × ArePartsOf src parts × WritesPrefix old new written (lossy_utf16 parts)
+replaced_all src old new read written d none = (d.parts, subst (λ xs. StartsWith src d.parts xs) none d.first, d.writes)
+
+-- characters take no more code units than bytes
+pub characters_short : (src old new : List ℕ) (read written : ℕ) → ConvertsUntilFull encode_utf16 src old new read written
+    → (written ≤ read) × (length new ≡ length old)
+characters_short src old new read written d =
+    (omega (arith, d.writes.count, length-utf16 d.scalars d.are_scalars, ap length d.spelled, length-take read src), WritesPrefix-length _ _ _ _ d.writes)
 
 -- how much of the destination is left after such a call
 pub repaired_length : (new sub : List ℕ) (written units : ℕ) (out : List ℕ) → WritesPrefix (take (length new - written) (drop written new)) sub units out
@@ -133,34 +169,3 @@ repaired_length new sub written units out w l =
     let kept : length sub ≡ length (take (length new - written) (drop written new)) = WritesPrefix-length _ _ _ _ w in
     let size : length (take (length new - written) (drop written new)) ≡ length new - written = ap length (take_rest new written) ∙ length-drop written new in
     omega (arith, kept, size, l, length-append {A = ℕ}, length-take {A = ℕ}, length-drop {A = ℕ})
-
--- ---- the characters before the first malformed sequence
--- they are all of the source
-pub characters_all : (src old new : List ℕ) (read written : ℕ) → ConvertsUntilFull encode_utf16 src old new read written → read ≡ length src
-    → (parts : List Part) × ArePartsOf src parts × WritesPrefix old new written (lossy_utf16 parts)
-characters_all src old new read written d all =
-    let text : encode_utf8_all d.scalars ++ [] ≡ src = append-nil (encode_utf8_all d.scalars) ∙ d.spelled ∙ take_all read src (omega (arith, all)) in (
-      map Character d.scalars,
-      subst (λ xs. ArePartsOf xs (map Character d.scalars)) text (StartsWith-characters d.scalars [] d.are_scalars),
-      subst (λ xs. WritesPrefix old new written xs) (sym (lossy-characters encode_utf16 d.scalars)) d.writes,
-    )
-
--- the parts of the rest follow them
-pub characters_then : (src old new sub : List ℕ) (read written units : ℕ) → ConvertsUntilFull encode_utf16 src old new read written
-    → (rest : List Part) × ArePartsOf (drop read src) rest × WritesPrefix (take (length new - written) (drop written new)) sub units (lossy_utf16 rest)
-    → (parts : List Part) × ArePartsOf src parts × WritesPrefix old (put_mid written (length new - written) new sub) (written + units) (lossy_utf16 parts)
-characters_then src old new sub read written units d (rest, are, w) =
-    let text : encode_utf8_all d.scalars ++ drop read src ≡ src = ap (λ xs. xs ++ drop read src) d.spelled ∙ take-append-drop read src in
-    let first : List Part = map Character d.scalars in (
-      first ++ rest,
-      subst (λ xs. ArePartsOf xs (first ++ rest)) text
-          (StartsWith-append _ first (drop read src) rest [] (StartsWith-characters d.scalars (drop read src) d.are_scalars) are),
-      WritesPrefix-same _ _ _ _ _ _ (WritesPrefix_after old new written (flat_map encode_utf16 d.scalars) sub units (lossy_utf16 rest) d.writes w) refl
-          (ap (λ xs. xs ++ lossy_utf16 rest) (sym (lossy-characters encode_utf16 d.scalars)) ∙ sym (lossy-append encode_utf16 first rest)),
-    )
-
--- they take no more code units than bytes
-pub characters_short : (src old new : List ℕ) (read written : ℕ) → ConvertsUntilFull encode_utf16 src old new read written
-    → (written ≤ read) × (length new ≡ length old)
-characters_short src old new read written d =
-    (omega (arith, d.writes.count, length-utf16 d.scalars d.are_scalars, ap length d.spelled, length-take read src), WritesPrefix-length _ _ _ _ d.writes)

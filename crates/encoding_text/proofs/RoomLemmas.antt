@@ -1,5 +1,5 @@
 -- What follows from one call: it makes progress, and a destination of the queried length is large enough.
-use Rattle.std.proofs.Common.{◌≡◌, ◌≢◌, ℕ, ◌+◌, ◌-◌, ◌<◌, ◌≤◌, ◌⊎◌, inl, inr, Bool, true, List, [], ◌++◌, length, take, encode_utf8, encode_utf8_all, refl, sym, ap, ◌∙◌, arith}
+use Rattle.std.proofs.Common.{◌≡◌, ℕ, ◌+◌, ◌-◌, ◌<◌, ◌≤◌, ◌⊎◌, inl, inr, Bool, true, List, ◌++◌, length, take, encode_utf8, encode_utf8_all, refl, sym, ap, ◌∙◌, arith}
 use Rattle.std.specs.Char.Escape.{encode_utf16}
 use Rattle.std.specs.Str.{all_scalars}
 use Rattle.std.specs.List.{flat_map}
@@ -72,15 +72,6 @@ module _ {A : Type 0} {encode : ℕ → List A} {need : ℕ} {p src : List ℕ} 
 
 pub length-utf8 : (cs : List ℕ) → all_scalars cs ≡ true → length (flat_map encode_utf8 cs) ≤ length (encode_utf8_all cs)
 length-utf8 cs h = omega (arith, ap length (flat_map-encode_utf8 cs))
-
--- ---- nothing pending, and space for one code unit more than there are bytes
--- the call isn't full, and a report leaves space for U+FFFD, the bytes left and one more
-pub keeps_room : (src old new : List ℕ) (last : Bool) (result : DecoderResult) (read written : ℕ) (q : List ℕ)
-    → DecodeStepInto encode_utf16 2 [] src old new last result read written q
-    → length src < length old → (result ≢ OutputFull) × (IsReport result → written + 1 + (length src - read) < length old)
-keeps_room src old new last result read written q (out, w, call) l =
-    let b = counts length-utf16 result call in
-    (λ e. let f = b.full e in omega (arith, f.0, f.1, b.split, b.within, w.count), λ r. omega (arith, (b.reported r).0, b.within, w.count))
 
 -- ---- the queried length is large enough
 module _ {p src old new : List ℕ} {last : Bool} {result : DecoderResult} {read written : ℕ} {q : List ℕ} where

@@ -10,6 +10,7 @@ use super::{DecoderResult, decode};
 use crate::utf_8::CodeUnit;
 use crate::utf_8::first::First;
 use encoding_kernels::scalar::write_scalar;
+use encoding_kernels::simd::width::ASCII_END;
 
 /// The scalar value that replaces a malformed sequence.
 const REPLACEMENT_CHARACTER: u32 = 0xFFFD;
@@ -54,8 +55,9 @@ impl Replacing for u8 {
 
 /// Returns the length of the malformed sequence at the start of the bytes, which are all that is left. `None` if there
 /// are none, or they start with a character.
-#[tactic(auto, using(crate::proofs::ReplacingLemmas::begins_character, crate::proofs::FirstLemmas::all_malformed))]
-fn malformed_length(bytes: &[u8]) -> Option<usize>
+#[tactic(auto, using(crate::proofs::CallLemmas::not_ascii, crate::proofs::ReplacingLemmas::begins_character, crate::proofs::FirstLemmas::all_malformed))]
+#[inline(always)]
+pub(crate) fn malformed_length(bytes: &[u8]) -> Option<usize>
     ensures if_some { IfSome result (λ n. (n ≤ length bytes.now)
         × IsMalformed (take n bytes.now) (drop n bytes.now) true) }
     ensures if_none { IfNone result (BeginsWithNoCharacter bytes.now → bytes.now ≡ []) }
@@ -63,7 +65,14 @@ fn malformed_length(bytes: &[u8]) -> Option<usize>
     if bytes.is_empty() {
         return None;
     }
-    match First::of(bytes) {
+    if bytes[0] < ASCII_END {
+        return None;
+    }
+    let first = match First::of_two(bytes) {
+        Some(first) => first,
+        None => First::by_bytes(bytes),
+    };
+    match first {
         First::Malformed(length) => Some(length),
         First::Incomplete => Some(bytes.len()),
         First::Ascii => None,

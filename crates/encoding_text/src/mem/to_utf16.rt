@@ -4,12 +4,12 @@ ghost use Rattle.std.specs.Prelude.{◌≡◌, ℕ, ◌<◌, ◌≤◌, ◌↔�
 ghost use Rattle.std.specs.List.{flat_map};
 ghost use Rattle.std.specs.Char.Escape.{encode_utf16};
 ghost use Rattle.std.specs.Str.{IsUtf8, chars};
-ghost use Rattle.encoding_definitions.specs.Parts.{Part, ArePartsOf, lossy_utf16};
+ghost use Rattle.encoding_definitions.specs.Parts.{Part, ArePartsOf, BeginsWithNoCharacter, lossy_utf16};
 ghost use Rattle.encoding_definitions.specs.Prefixes.{WritesPrefix};
 ghost use Rattle.encoding_definitions.specs.Converting.{WritesText};
 
 use crate::ascii::prefixes::unpack_ascii_prefix;
-use crate::decoder::{DecoderResult, Utf8Decoder};
+use crate::decoder::replacing::malformed_length;
 use crate::utf_8::{convert_text, convert_utf8_to_utf16_up_to_invalid};
 use encoding_kernels::lengths::{BLOCK_OF_TEXT, SHORT};
 use encoding_kernels::simd::copy::write_short;
@@ -17,33 +17,26 @@ use encoding_kernels::simd::scan::BytesBelow;
 use encoding_kernels::simd::width::ASCII_END;
 use encoding_kernels::utf8_to_utf16::text::convert_short;
 
-/// Converts bytes to UTF-16 as `convert_utf8_to_utf16` does, by a decoder. Out of line, so that well-formed text needs few registers.
+/// Converts bytes that begin with a malformed sequence as `convert_utf8_to_utf16` does. Out of line, so that well-formed text needs
+/// few registers.
 #[inline(never)]
-fn convert_with_replacement(src: &[u8], dst: &mut [u16]) -> usize
+fn convert_malformed(src: &[u8], dst: &mut [u16]) -> usize
+    requires no_character { BeginsWithNoCharacter src.now }
     requires dst_length { length src.now < length dst.old }
     ensures { (parts : List Part) × ArePartsOf src.now parts × WritesPrefix dst.old dst.new result
         (lossy_utf16 parts) }
 {
-    let mut decoder = Utf8Decoder::new_inner();
     let mut read = 0;
     let mut written = 0;
-    loop {
-        let (result, bytes, units) = decoder.decode_to_utf16_raw(
-            &src[read..],
-            &mut dst[written..],
-            true,
-        );
+    while let Some(length) = malformed_length(&src[read..]) {
+        read += length;
+        dst[written] = 0xFFFD;
+        written += 1;
+        let (bytes, units) = convert_utf8_to_utf16_up_to_invalid(&src[read..], &mut dst[written..]);
         read += bytes;
         written += units;
-        match result {
-            DecoderResult::InputEmpty => return written,
-            DecoderResult::OutputFull => unreachable!(),
-            DecoderResult::Malformed(..) => {
-                dst[written] = 0xFFFD;
-                written += 1;
-            }
-        }
     }
+    written
 }
 
 /// Converts bytes to UTF-16, with U+FFFD for each malformed sequence, and returns how many code units it wrote.
@@ -59,7 +52,7 @@ pub fn convert_utf8_to_utf16(src: &[u8], dst: &mut [u16]) -> usize
     if read == src.len() {
         return written;
     }
-    written + convert_with_replacement(&src[read..], &mut dst[written..])
+    written + convert_malformed(&src[read..], &mut dst[written..])
 }
 
 /// Converts a text of more than 64 bytes to UTF-16, and returns how many code units it wrote. Out of line, so that a short text

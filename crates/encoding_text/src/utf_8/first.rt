@@ -77,24 +77,6 @@ impl First {
         }
         First::Character(known)
     }
-
-    /// Returns what the bytes begin with, exactly.
-    #[tactic(auto, using(crate::proofs::CallLemmas::not_ascii))]
-    #[inline(always)]
-    pub(crate) fn of(bytes: &[u8]) -> First
-        ensures { IsFirst bytes.now result }
-    {
-        if bytes.is_empty() {
-            return First::Incomplete;
-        }
-        let Some(length) = character_length(bytes) else {
-            return First::by_bytes(bytes);
-        };
-        if length == 1 {
-            return First::Ascii;
-        }
-        First::Character(length)
-    }
 }
 
 /// Returns the length of the character at the start of the bytes, if there is one. If there are four bytes, the table decides
