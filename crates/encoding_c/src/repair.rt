@@ -109,7 +109,9 @@ pub extern "C" fn encoding_text_repair_slice(src: &[u8], dst: &mut [u8]) -> Enco
     ensures invalid_argument { length dst.old < 3 * length src.now
         → (result.written ≡ usize.MAX) × (result.replaced ≡ 0) × (dst.new ≡ dst.old) }
 {
-    if dst.len() / 3 < src.len() {
+    // Whether `dst` is less than three times as long. With `/ 3`, 16 more bytes of code precede the loop: for x86-64-v3, more of
+    // its jumps then end at a multiple of 32 bytes, where they are slow.
+    if dst.len().saturating_sub(src.len()) / 2 < src.len() {
         return EncodingRepairResult {
             written: INVALID_ARGUMENT,
             replaced: 0,

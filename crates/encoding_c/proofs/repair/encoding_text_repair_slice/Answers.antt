@@ -19,7 +19,8 @@ unreachable-requires c =
       short,
       full,
       room,
-      c.if-dst-src.false,
+      c.if-saturating_sub-src.false,
+      c.saturating_sub.ensures,
       out,
       length-take w.written w.room.now,
       length-append
