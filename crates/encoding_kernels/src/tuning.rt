@@ -52,18 +52,6 @@ pub const VALIDATED_PIECE: usize = 4096;
 /// 0.97, logs 0.92 to 0.97; with 8,192, 0.97 to 1.00; with 32,768, 0.98 to 1.01.
 pub const CONVERTED_PIECE: usize = 16384;
 
-/// In pairs of blocks of 64 bytes: how many are validated at first until the next test for ASCII. After ASCII it is one.
-///
-/// `utf8_valid_up_to`, 1,024 bytes, by instructions, for `x86-64-v3` and without the toolchain: with two, Russian 0.96, HTML
-/// 0.97, JSON 0.98, logs 1.01; with four, 1.00, logs 0.99.
-pub const FIRST_PAIRS: usize = 3;
-
-/// In pairs of blocks of 64 bytes: the most that are validated until the next test for ASCII. Each test that fails adds one.
-///
-/// `utf8_valid_up_to`, 16 KiB, in a build without the toolchain: with two in place of four, Chinese, prose and Western European
-/// text 0.95, code 1.01; with eight in place of four, 0.98 to 1.02.
-pub const MOST_PAIRS: usize = 6;
-
 /// In bytes, a multiple of two blocks: how much more ASCII is skipped after two blocks of it, before the ASCII prefix takes over.
 ///
 /// `utf8_valid_up_to`, 16 KiB, in a build without the toolchain: with 500, logs 0.86, JSON 0.94, ASCII with a character in

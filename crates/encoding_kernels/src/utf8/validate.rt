@@ -3,13 +3,13 @@
 //! the blocks, and long runs of it between them, are the caller's.
 
 ghost use Rattle.std.specs.Prelude.{◌≡◌, ℕ, ◌+◌, ◌-◌, ◌*◌, ◌<◌, ◌≤◌, ◌∷◌, ◌++◌, length, take, drop, replicate, slice_index};
-ghost use Rattle.encoding_kernels.specs.Scans.{BelowBetween, BelowUpTo, HasLanes};
+ghost use Rattle.encoding_kernels.specs.Scans.{BelowUpTo, HasLanes};
 ghost use Rattle.encoding_kernels.specs.Following.{IsValidAt, ValidUpTo};
 ghost use Rattle.std.specs.Str.{IsUtf8};
 
 use crate::simd::scan::{AllPass, BytesBelow, skip, zeros};
 use crate::simd::width::{ASCII_END, BLOCK, FOUR_BLOCKS, HALF_BLOCK, LANES, STRIDE, TWO_BLOCKS};
-use crate::tuning::{FIRST_PAIRS, MOST_PAIRS, MOST_SKIPPED};
+use crate::tuning::MOST_SKIPPED;
 use crate::utf8::lookups::{BYTE_1_HIGH, BYTE_1_LOW, BYTE_2_HIGH};
 use std::simd::prelude::*;
 
@@ -195,30 +195,35 @@ fn clean_of_64<const BEFORE: usize>(src: &[u8], at: usize) -> usize
     last - at + zeros(second)
 }
 
-/// Extends a prefix of `from` bytes that may each follow those before it. Adds at most `pairs` times 128 bytes, and returns
-/// the new length.
+/// Returns how many of the 128 bytes from `at` on precede the first that may not follow the three before it.
 #[tactic(auto, using(crate::proofs::Utf8ValidationLemmas::ValidUpTo_less))]
 #[inline(always)]
-fn extend_by_pairs(src: &[u8], from: usize, pairs: usize) -> usize
-    requires blocks { (3 ≤ from) × (from + 128 * pairs ≤ length src.now) }
-    requires prefix { ValidUpTo src.now from }
-    ensures { (from ≤ result) × (result ≤ from + 128 * pairs) × ValidUpTo src.now result }
+fn clean_of_128(src: &[u8], at: usize) -> usize
+    requires { (3 ≤ at) × (at + 128 ≤ length src.now) }
+    ensures within { result ≤ 128 }
+    ensures follow { ValidUpTo src.now at → ValidUpTo src.now (at + result) }
 {
-    let mut at = from;
-    let mut left = pairs;
-    while left > 0 {
-        let clean = clean_of_64::<3>(src, at);
-        if clean < BLOCK {
-            return at + clean;
-        }
-        let clean = clean_of_64::<3>(src, at + BLOCK);
-        at += TWO_BLOCKS;
-        if clean < BLOCK {
-            return at - BLOCK + clean;
-        }
-        left -= 1;
+    let clean = clean_of_64::<3>(src, at);
+    if clean < BLOCK {
+        return clean;
     }
-    at
+    BLOCK + clean_of_64::<3>(src, at + BLOCK)
+}
+
+/// Returns how many of the 256 bytes from `at` on precede the first that may not follow the three before it. The tables are loaded
+/// once for all of them.
+#[tactic(auto, using(crate::proofs::Utf8ValidationLemmas::ValidUpTo_less))]
+#[inline(always)]
+fn clean_of_256(src: &[u8], at: usize) -> usize
+    requires { (3 ≤ at) × (at + 256 ≤ length src.now) }
+    ensures within { result ≤ 256 }
+    ensures follow { ValidUpTo src.now at → ValidUpTo src.now (at + result) }
+{
+    let clean = clean_of_128(src, at);
+    if clean < TWO_BLOCKS {
+        return clean;
+    }
+    TWO_BLOCKS + clean_of_128(src, at + TWO_BLOCKS)
 }
 
 /// Returns `at`, or the start of the character that is cut there.
@@ -242,26 +247,39 @@ fn back(src: &[u8], at: usize) -> usize
     at
 }
 
-/// Skips ASCII from `at` on, 128 bytes at a time and at most a limited number of times, and returns where it ends.
+/// Returns whether the first half of each of the four blocks from `at` on is ASCII. Its loads ask for four cache lines at once, so
+/// that text from beyond the nearest caches arrives while it is validated.
+#[inline(always)]
+fn halves_are_ascii(src: &[u8], at: usize) -> bool
+    requires { (at + 256 ≤ length src.now) × (at + 256 < 18446744073709551616) }
+{
+    let first = u8x32::from_slice(&src[at..]) | u8x32::from_slice(&src[at + BLOCK..]);
+    let at = at + TWO_BLOCKS;
+    let second = u8x32::from_slice(&src[at..]) | u8x32::from_slice(&src[at + BLOCK..]);
+    (first | second).simd_lt(u8x32::splat(ASCII_END)).all()
+}
+
+/// Extends a prefix of `from` bytes that may each follow those before it by ASCII, 128 bytes at a time and at most a limited
+/// number of times, and returns the new length. The ASCII has to begin three bytes before `from`: then no character is cut there.
 ///
 /// A vector has no more lanes than those of the look-ups. The loads of these begin up to three bytes apart from it, and the
 /// compiler would take them out of a longer vector byte by byte.
 #[inline(always)]
-fn skip_ascii(src: &[u8], at: usize) -> usize
-    requires { (at + 128 ≤ length src.now) × (at + 128 < 18446744073709551616) }
-    ensures within { (at ≤ result) × (result ≤ length src.now) }
-    ensures ascii { BelowBetween 0x80 src.now at result }
+fn skip_ascii(src: &[u8], from: usize) -> usize
+    requires within { (64 ≤ from) × (from + 256 ≤ length src.now) × (from + 256 < 18446744073709551616) }
+    requires prefix { ValidUpTo src.now from }
+    ensures { (from ≤ result) × (result ≤ length src.now) × ValidUpTo src.now result }
 {
     let ascii = BytesBelow {
         bytes: src,
         bound: ASCII_END,
     };
-    if !AllPass::<HALF_BLOCK, TWO_BLOCKS>::pass(&ascii, at) {
-        return at;
+    if !halves_are_ascii(src, from) || !AllPass::<HALF_BLOCK, TWO_BLOCKS>::pass(&ascii, from - 3) {
+        return from;
     }
-    let from = at + TWO_BLOCKS;
-    let most = (src.len() - from).min(MOST_SKIPPED);
-    skip::<HALF_BLOCK, TWO_BLOCKS, _>(&ascii, from, from + most)
+    let at = from - 3 + TWO_BLOCKS;
+    let most = (src.len() - at).min(MOST_SKIPPED);
+    skip::<HALF_BLOCK, TWO_BLOCKS, _>(&ascii, at, at + most)
 }
 
 /// Extends a prefix of `from` bytes that may each follow those before it, 64 at a time, and returns its length. The
@@ -290,9 +308,9 @@ fn finish(src: &[u8], from: usize) -> usize
 /// Extends a prefix of `from` bytes that may each follow those before it, and returns its length. Stops in a long run of
 /// ASCII. Out of line, so that the address of the loop, and so its speed, doesn't depend on the caller.
 ///
-/// ASCII that begins three bytes before `at` needs no look-ups, since no character is cut there. Where it is rare, it is
-/// tested for less often, and not at all with fewer than 256 bytes left: a test that fails would cost more than
-/// it saves there.
+/// ASCII that begins three bytes before `at` needs no look-ups, since no character is cut there. It is tested for after each four
+/// blocks. After ASCII two blocks are enough, since the next byte that isn't ASCII is in them. With fewer than 256 bytes left it
+/// isn't tested for: a test that fails would cost more than it saves there.
 #[tactic(auto, using(crate::proofs::Utf8ValidationLemmas::ValidUpTo_less))]
 #[inline(never)]
 fn following(src: &[u8], from: usize) -> usize
@@ -314,24 +332,28 @@ fn following(src: &[u8], from: usize) -> usize
             return at;
         }
     }
-    let mut pairs = FIRST_PAIRS;
     while src.len() - at >= FOUR_BLOCKS {
-        let run = skip_ascii(src, at - 3);
-        if run > at {
-            if run - at >= MOST_SKIPPED {
-                return run;
+        let run = skip_ascii(src, at);
+        if run == at {
+            let clean = clean_of_256(src, at);
+            at += clean;
+            if clean < FOUR_BLOCKS {
+                return at;
             }
-            at = run;
-            pairs = 1;
             continue;
         }
-        pairs = pairs.min((src.len() - at) / TWO_BLOCKS);
-        let end = at + TWO_BLOCKS * pairs;
-        at = extend_by_pairs(src, at, pairs);
-        if at < end {
+        if run - at >= MOST_SKIPPED {
+            return run;
+        }
+        at = run;
+        if src.len() - at < TWO_BLOCKS {
+            break;
+        }
+        let clean = clean_of_128(src, at);
+        at += clean;
+        if clean < TWO_BLOCKS {
             return at;
         }
-        pairs = (pairs + 1).min(MOST_PAIRS);
     }
     finish(src, at)
 }

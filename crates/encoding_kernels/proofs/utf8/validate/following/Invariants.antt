@@ -1,4 +1,4 @@
-use Rattle.std.proofs.Common.{◌≤◌, ◌<◌, ◌-◌, length}
+use Rattle.std.proofs.Common.{◌≤◌, ◌-◌, length}
 use Rattle.encoding_kernels.specs.Following.{ValidUpTo}
 use Rattle.encoding_kernels.proofs.utf8.validate.following.Given as goal
 
@@ -7,8 +7,6 @@ invariant-loop-at l = record {
   started : 64 ≤ l.at;
   within : l.at ≤ length l.src;
   prefix : ValidUpTo l.src l.at;
-  some : 0 < l.pairs;
-  few : l.pairs ≤ 6;
 }
 
 abbrev pub decreases-loop-at : goal.decreases-loop-at
