@@ -266,7 +266,8 @@ fn halves_are_ascii(src: &[u8], at: usize) -> bool
 /// compiler would take them out of a longer vector byte by byte.
 #[inline(always)]
 fn skip_ascii(src: &[u8], from: usize) -> usize
-    requires within { (64 ≤ from) × (from + 256 ≤ length src.now) × (from + 256 < 18446744073709551616) }
+    requires within { (64 ≤ from) × (from + 256 ≤ length src.now) }
+    requires fits { from + 256 < 18446744073709551616 }
     requires prefix { ValidUpTo src.now from }
     ensures { (from ≤ result) × (result ≤ length src.now) × ValidUpTo src.now result }
 {
@@ -308,9 +309,9 @@ fn finish(src: &[u8], from: usize) -> usize
 /// Extends a prefix of `from` bytes that may each follow those before it, and returns its length. Stops in a long run of
 /// ASCII. Out of line, so that the address of the loop, and so its speed, doesn't depend on the caller.
 ///
-/// ASCII that begins three bytes before `at` needs no look-ups, since no character is cut there. It is tested for after each four
-/// blocks. After ASCII two blocks are enough, since the next byte that isn't ASCII is in them. With fewer than 256 bytes left it
-/// isn't tested for: a test that fails would cost more than it saves there.
+/// ASCII that begins three bytes before `at` needs no look-ups, since no character is cut there. It is tested for before each four
+/// blocks. After ASCII two blocks follow without a test, since the next byte that isn't ASCII is in them. With fewer than 256 bytes
+/// left it isn't tested for: a test that fails would cost more than it saves there.
 #[tactic(auto, using(crate::proofs::Utf8ValidationLemmas::ValidUpTo_less))]
 #[inline(never)]
 fn following(src: &[u8], from: usize) -> usize
