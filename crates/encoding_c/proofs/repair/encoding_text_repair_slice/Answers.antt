@@ -19,8 +19,7 @@ unreachable-requires c =
       short,
       full,
       room,
-      c.if-saturating_sub-src.false,
-      c.saturating_sub.ensures,
+      c.if-buffer-src.false,
       out,
       length-take w.written w.room.now,
       length-append
