@@ -196,7 +196,6 @@ fn clean_of_64<const BEFORE: usize>(src: &[u8], at: usize) -> usize
 }
 
 /// Returns how many of the 128 bytes from `at` on precede the first that may not follow the three before it.
-#[tactic(auto, using(crate::proofs::Utf8ValidationLemmas::ValidUpTo_less))]
 #[inline(always)]
 fn clean_of_128(src: &[u8], at: usize) -> usize
     requires { (3 ≤ at) × (at + 128 ≤ length src.now) }
@@ -211,8 +210,7 @@ fn clean_of_128(src: &[u8], at: usize) -> usize
 }
 
 /// Returns how many of the 256 bytes from `at` on precede the first that may not follow the three before it. The tables are loaded
-/// once for all of them.
-#[tactic(auto, using(crate::proofs::Utf8ValidationLemmas::ValidUpTo_less))]
+/// once for all four blocks.
 #[inline(always)]
 fn clean_of_256(src: &[u8], at: usize) -> usize
     requires { (3 ≤ at) × (at + 256 ≤ length src.now) }
@@ -247,18 +245,6 @@ fn back(src: &[u8], at: usize) -> usize
     at
 }
 
-/// Returns whether the first half of each of the four blocks from `at` on is ASCII. Its loads ask for four cache lines at once, so
-/// that text from beyond the nearest caches arrives while it is validated.
-#[inline(always)]
-fn halves_are_ascii(src: &[u8], at: usize) -> bool
-    requires { (at + 256 ≤ length src.now) × (at + 256 < 18446744073709551616) }
-{
-    let first = u8x32::from_slice(&src[at..]) | u8x32::from_slice(&src[at + BLOCK..]);
-    let at = at + TWO_BLOCKS;
-    let second = u8x32::from_slice(&src[at..]) | u8x32::from_slice(&src[at + BLOCK..]);
-    (first | second).simd_lt(u8x32::splat(ASCII_END)).all()
-}
-
 /// Extends a prefix of `from` bytes that may each follow those before it by ASCII, 128 bytes at a time and at most a limited
 /// number of times, and returns the new length. The ASCII has to begin three bytes before `from`: then no character is cut there.
 ///
@@ -267,15 +253,22 @@ fn halves_are_ascii(src: &[u8], at: usize) -> bool
 #[inline(always)]
 fn skip_ascii(src: &[u8], from: usize) -> usize
     requires within { (64 ≤ from) × (from + 256 ≤ length src.now) }
-    requires fits { from + 256 < 18446744073709551616 }
     requires prefix { ValidUpTo src.now from }
     ensures { (from ≤ result) × (result ≤ length src.now) × ValidUpTo src.now result }
 {
+    // The first half of each of the next four blocks: most other text shows there. Text from beyond the nearest caches is validated
+    // faster by that than by a test of adjacent bytes alone.
+    let next = from + TWO_BLOCKS;
+    let first = u8x32::from_slice(&src[from..]) | u8x32::from_slice(&src[from + BLOCK..]);
+    let second = u8x32::from_slice(&src[next..]) | u8x32::from_slice(&src[next + BLOCK..]);
+    if !(first | second).simd_lt(u8x32::splat(ASCII_END)).all() {
+        return from;
+    }
     let ascii = BytesBelow {
         bytes: src,
         bound: ASCII_END,
     };
-    if !halves_are_ascii(src, from) || !AllPass::<HALF_BLOCK, TWO_BLOCKS>::pass(&ascii, from - 3) {
+    if !AllPass::<HALF_BLOCK, TWO_BLOCKS>::pass(&ascii, from - 3) {
         return from;
     }
     let at = from - 3 + TWO_BLOCKS;
@@ -312,7 +305,6 @@ fn finish(src: &[u8], from: usize) -> usize
 /// ASCII that begins three bytes before `at` needs no look-ups, since no character is cut there. It is tested for before each four
 /// blocks. After ASCII two blocks follow without a test, since the next byte that isn't ASCII is in them. With fewer than 256 bytes
 /// left it isn't tested for: a test that fails would cost more than it saves there.
-#[tactic(auto, using(crate::proofs::Utf8ValidationLemmas::ValidUpTo_less))]
 #[inline(never)]
 fn following(src: &[u8], from: usize) -> usize
     requires src_length { 64 ≤ length src.now }
