@@ -1,9 +1,9 @@
-// Times six calls of several builds of the C library next to one another, on pieces of a text:
+// Times nine calls of several builds of the C library next to one another, on pieces of a text:
 //     cells TEXT LEAST MOST ROUNDS LIBRARY..
 // The pieces have LEAST to MOST bytes and begin and end with whole characters. There are so many that the processor can't
 // learn the order of their lengths. They are timed in parts, each by all libraries by turns, and of each part the shortest time
 // of all rounds counts: so other work on the machine hardly shows. Prints for each call its name and for each library the
-// nanoseconds of a call.
+// nanoseconds of a call. UTF-8 to Latin1 is left out if the text isn't Latin1.
 #define _POSIX_C_SOURCE 200809L
 #include <dlfcn.h>
 #include <stdio.h>
@@ -17,6 +17,7 @@ enum { MOST_PIECES = 60000, PARTS = 40, MOST_LIBRARIES = 64, TEXT = 1 << 20 };
 static uint8_t text[TEXT], latin1[TEXT], bytes[1 << 18];
 static uint16_t units[TEXT], written[1 << 18];
 static uint32_t unit_at[TEXT + 1];
+static bool is_latin1 = true;
 static struct {
     uint32_t at, length, unit_at, units;
 } pieces[MOST_PIECES];
@@ -26,8 +27,10 @@ static const char *const names[] = {
     "encoding_text_utf8_valid_up_to",         "encoding_text_repair_slice",
     "encoding_text_mem_convert_latin1_to_utf8", "encoding_text_mem_convert_utf8_to_utf16",
     "encoding_text_mem_convert_str_to_utf16", "encoding_text_mem_convert_utf16_to_utf8",
+    "encoding_text_utf8_decoder_decode_to_utf16", "encoding_text_mem_convert_utf8_to_latin1_lossy",
+    "encoding_text_mem_is_utf16_bidi",
 };
-enum { CALLS = sizeof names / sizeof *names };
+enum { TO_LATIN1 = 7, CALLS = sizeof names / sizeof *names };
 
 static void ends(const char *why, const char *what) {
     fprintf(stderr, "cells: %s: %s\n", what, why);
@@ -49,6 +52,8 @@ typedef encoding_text_repair_result repairs(const uint8_t *, size_t, uint8_t *, 
 typedef size_t to_bytes(const uint8_t *, size_t, uint8_t *, size_t);
 typedef size_t to_units(const uint8_t *, size_t, uint16_t *, size_t);
 typedef size_t from_units(const uint16_t *, size_t, uint8_t *, size_t);
+typedef encoding_text_decode_result decodes(encoding_text_utf8_decoder *, const uint8_t *, size_t, uint16_t *, size_t, bool);
+typedef bool answers(const uint16_t *, size_t);
 
 // Runs a call on a piece, and returns its result.
 static inline size_t run_one(int call, void *function, size_t i) {
@@ -60,7 +65,10 @@ static inline size_t run_one(int call, void *function, size_t i) {
     case 2: return ((to_bytes *)function)(latin1 + at, count, bytes, 2 * count);
     case 3: return ((to_units *)function)(src, length, written, length + 1);
     case 4: return ((to_units *)function)(src, length, written, length);
-    default: return ((from_units *)function)(units + at, count, bytes, 3 * count);
+    case 5: return ((from_units *)function)(units + at, count, bytes, 3 * count);
+    case 6: return ((decodes *)function)(&(encoding_text_utf8_decoder){0}, src, length, written, length + 1, true).written;
+    case TO_LATIN1: return ((to_bytes *)function)(src, length, bytes, length);
+    default: return ((answers *)function)(units + at, count);
     }
 }
 
@@ -87,7 +95,10 @@ static size_t read_text(const char *path, void *library) {
         if (!continues(text[i])) count += text[i] < 0xF0 ? 1 : 2;
     }
     unit_at[length] = count;
-    for (uint32_t i = 0; i < count; i++) latin1[i] = (uint8_t)units[i];
+    for (uint32_t i = 0; i < count; i++) {
+        latin1[i] = (uint8_t)units[i];
+        is_latin1 = is_latin1 && units[i] < 0x100;
+    }
     return length;
 }
 
@@ -154,6 +165,7 @@ int main(int count, char **words) {
     size_t length = read_text(words[1], libraries[0]);
     if (length < 2 * most + 16) ends("is too short", words[1]);
     size_t pieces_of_text = choose(length, least, most);
-    for (int call = 0; call < CALLS; call++) time_call(call, libraries, many, pieces_of_text, rounds);
+    for (int call = 0; call < CALLS; call++)
+        if (call != TO_LATIN1 || is_latin1) time_call(call, libraries, many, pieces_of_text, rounds);
     return 0;
 }

@@ -12,6 +12,8 @@ CJK = [chr(c) for c in range(0x4E00, 0x9E00)]
 MARKS = ["\u2019", "\u201C", "\u201D", "\u2014", "\u2026"]
 GREEK = [chr(c) for c in range(0x3AC, 0x3CF)]
 KOREAN = [chr(c) for c in range(0xAC00, 0xD7A4)]
+THAI = [chr(c) for c in range(0xE01, 0xE3A)]
+ARMENIAN = [chr(c) for c in (*range(0x561, 0x587), 0xFB13)]
 
 
 def words(letters, length):
@@ -40,6 +42,13 @@ LOGS = [
     for letters in (BEYOND * 2, CYRILLIC, CJK, EMOJI)
     for length in range(50, 1000, 19)
 ]
+MESSAGES = [
+    "".join(CJK[(length * 613 + k * 7919) % len(CJK)] for k in range(length)) + mark + emoji
+    for length, emoji in zip([*range(15, 26)] * 7, EMOJI)
+    for mark in "!?.~"
+]
+RARE = [words(LETTERS * 2, 1998) + letter for letter in BEYOND]
+ACCENTS = [words(LETTERS * 2, length - 2) + letter for length in range(48, 95) for letter in BEYOND]
 
 # Each kind as groups of characters, words or elements, and how often a group is chosen.
 KINDS = {
@@ -56,6 +65,12 @@ KINDS = {
     "logs": [(LOGS, 1)],
     "Greek": [(GREEK, 45), ([" "], 9), ([", ", ".\n"], 1)],
     "Korean": [(KOREAN, 45), ([" "], 9), ([", ", ".\n"], 1)],
+    "tenth": [(LETTERS, 9), (BEYOND, 1)],
+    "Thai": [(THAI, 45), ([" "], 4)],
+    "Armenian": [(ARMENIAN, 1)],
+    "messages": [(MESSAGES, 1)],
+    "accents": [(ACCENTS, 1)],
+    "rare": [(RARE, 1)],
 }
 
 # A kind with one malformed byte in a hundred, and the kind.
