@@ -1,8 +1,8 @@
 // Times nine calls of several builds of the C library next to one another, on pieces of a text:
 //     cells TEXT LEAST MOST ROUNDS LIBRARY..
-// The pieces have LEAST to MOST bytes and begin and end with whole characters. There are so many that the processor can't
-// learn the order of their lengths. They are timed in parts, each by all libraries by turns, and of each part the shortest time
-// of all rounds counts: so other work on the machine hardly shows. Prints for each call its name and for each library the
+// The pieces have LEAST to MOST bytes and begin and end with whole characters. Short ones are 60,000, since the processor learns
+// the order of the lengths of a few thousand. They are timed in parts, each by all libraries by turns. Of each part the shortest
+// time of all rounds counts, so other work on the machine hardly shows. Prints for each call its name and for each library the
 // nanoseconds of a call. UTF-8 to Latin1 is left out if the text isn't Latin1.
 #define _POSIX_C_SOURCE 200809L
 #include <dlfcn.h>
@@ -23,14 +23,30 @@ static struct {
 } pieces[MOST_PIECES];
 static volatile size_t sink;
 
-static const char *const names[] = {
-    "encoding_text_utf8_valid_up_to",         "encoding_text_repair_slice",
-    "encoding_text_mem_convert_latin1_to_utf8", "encoding_text_mem_convert_utf8_to_utf16",
-    "encoding_text_mem_convert_str_to_utf16", "encoding_text_mem_convert_utf16_to_utf8",
-    "encoding_text_utf8_decoder_decode_to_utf16", "encoding_text_mem_convert_utf8_to_latin1_lossy",
-    "encoding_text_mem_is_utf16_bidi",
+enum {
+    VALID_UP_TO,
+    REPAIR_SLICE,
+    LATIN1_TO_UTF8,
+    UTF8_TO_UTF16,
+    STR_TO_UTF16,
+    UTF16_TO_UTF8,
+    DECODE_TO_UTF16,
+    UTF8_TO_LATIN1,
+    IS_UTF16_BIDI,
+    CALLS
 };
-enum { TO_LATIN1 = 7, CALLS = sizeof names / sizeof *names };
+
+static const char *const names[CALLS] = {
+    [VALID_UP_TO] = "encoding_text_utf8_valid_up_to",
+    [REPAIR_SLICE] = "encoding_text_repair_slice",
+    [LATIN1_TO_UTF8] = "encoding_text_mem_convert_latin1_to_utf8",
+    [UTF8_TO_UTF16] = "encoding_text_mem_convert_utf8_to_utf16",
+    [STR_TO_UTF16] = "encoding_text_mem_convert_str_to_utf16",
+    [UTF16_TO_UTF8] = "encoding_text_mem_convert_utf16_to_utf8",
+    [DECODE_TO_UTF16] = "encoding_text_utf8_decoder_decode_to_utf16",
+    [UTF8_TO_LATIN1] = "encoding_text_mem_convert_utf8_to_latin1_lossy",
+    [IS_UTF16_BIDI] = "encoding_text_mem_is_utf16_bidi",
+};
 
 static void ends(const char *why, const char *what) {
     fprintf(stderr, "cells: %s: %s\n", what, why);
@@ -60,14 +76,15 @@ static inline size_t run_one(int call, void *function, size_t i) {
     const uint8_t *src = text + pieces[i].at;
     size_t length = pieces[i].length, at = pieces[i].unit_at, count = pieces[i].units;
     switch (call) {
-    case 0: return ((measures *)function)(src, length);
-    case 1: return ((repairs *)function)(src, length, bytes, 3 * length).written;
-    case 2: return ((to_bytes *)function)(latin1 + at, count, bytes, 2 * count);
-    case 3: return ((to_units *)function)(src, length, written, length + 1);
-    case 4: return ((to_units *)function)(src, length, written, length);
-    case 5: return ((from_units *)function)(units + at, count, bytes, 3 * count);
-    case 6: return ((decodes *)function)(&(encoding_text_utf8_decoder){0}, src, length, written, length + 1, true).written;
-    case TO_LATIN1: return ((to_bytes *)function)(src, length, bytes, length);
+    case VALID_UP_TO: return ((measures *)function)(src, length);
+    case REPAIR_SLICE: return ((repairs *)function)(src, length, bytes, 3 * length).written;
+    case LATIN1_TO_UTF8: return ((to_bytes *)function)(latin1 + at, count, bytes, 2 * count);
+    case UTF8_TO_UTF16: return ((to_units *)function)(src, length, written, length + 1);
+    case STR_TO_UTF16: return ((to_units *)function)(src, length, written, length);
+    case UTF16_TO_UTF8: return ((from_units *)function)(units + at, count, bytes, 3 * count);
+    case DECODE_TO_UTF16:
+        return ((decodes *)function)(&(encoding_text_utf8_decoder){0}, src, length, written, length + 1, true).written;
+    case UTF8_TO_LATIN1: return ((to_bytes *)function)(src, length, bytes, length);
     default: return ((answers *)function)(units + at, count);
     }
 }
@@ -166,6 +183,6 @@ int main(int count, char **words) {
     if (length < 2 * most + 16) ends("is too short", words[1]);
     size_t pieces_of_text = choose(length, least, most);
     for (int call = 0; call < CALLS; call++)
-        if (call != TO_LATIN1 || is_latin1) time_call(call, libraries, many, pieces_of_text, rounds);
+        if (call != UTF8_TO_LATIN1 || is_latin1) time_call(call, libraries, many, pieces_of_text, rounds);
     return 0;
 }

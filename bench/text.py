@@ -1,4 +1,4 @@
-"""Writes MIB MiB of a kind of text, for bench/filters: python3 text.py KIND MIB. One MiB is made at random, the same one
+"""Writes MIB MiB of a kind of text, for the scripts of this folder: python3 text.py KIND MIB. One MiB is made at random, the same one
 on each run, and repeated; random bytes are new in each MiB."""
 import random
 import sys
@@ -47,6 +47,7 @@ MESSAGES = [
     for length, emoji in zip([*range(15, 26)] * 7, EMOJI)
     for mark in "!?.~"
 ]
+# ASCII with one other character in 2,000 bytes, and with one in 48 to 94.
 RARE = [words(LETTERS * 2, 1998) + letter for letter in BEYOND]
 ACCENTS = [words(LETTERS * 2, length - 2) + letter for length in range(48, 95) for letter in BEYOND]
 

@@ -43,6 +43,8 @@ def built(checkout, name, cpu):
             if ran.returncode != 0 or copy(crate / "out", files, program.parent) < len(files):
                 raise OSError(f"`{' '.join(words)}` in {crate}: status {ran.returncode}; what it said is in {log}")
         finally:
+            for file in files:
+                (crate / "out" / file).unlink(missing_ok=True)
             copy(before, files, crate / "out")
     return program
 
