@@ -189,19 +189,18 @@ impl<'a, const N: usize> AllPass<N, N> for NoForms<'a> {
     }
 }
 
-/// Returns whether none of the 32 code units from `at` on is right-to-left. May return false if there is one of D80A, D80B, D832,
-/// D833, or FE10 to FE6F.
+/// Returns whether none of the 32 code units from `at` on is right-to-left, with the forms by their range or by the tables. May
+/// return false if there is one of D80A, D80B, D832, D833, or FE10 to FE6F, and by the tables also FB10 to FB1C.
 #[inline(always)]
-fn are_32_clear(units: &[u16], at: usize) -> bool
+fn are_32_clear<const FORMS_BY_RANGE: bool>(units: &[u16], at: usize) -> bool
     requires { at + 32 ≤ length units.now }
     ensures { IsTrue result → NoneRightToLeft units.now at (at + 32) }
 {
     let (upper, lower) = bytes_of_32(units, at);
     let groups = groups_of_32(upper, lower);
-    if is_zero(groups) {
-        return true;
+    if !FORMS_BY_RANGE {
+        return is_zero(groups);
     }
-    // the tables hold some more units for forms, and a text with these has many
     is_zero(groups & u8x32::splat(OTHER_GROUPS))
         && AllPass::<HALF_UNIT_BLOCK, HALF_UNIT_BLOCK>::pass(&NoForms { units }, at)
 }
@@ -237,6 +236,20 @@ impl<'a, const N: usize> AllPass<N, N> for ClearUnits<'a> {
     }
 }
 
+/// Skips blocks as `skip_clear_unit_blocks` does, with the forms by their range.
+#[inline(always)]
+fn skip_unit_blocks_by_range(units: &[u16], from: usize, end: usize) -> usize
+    requires { (from ≤ end) × (end ≤ length units.now) }
+    ensures within { (from ≤ result) × (result ≤ end) }
+    ensures no_rtl { NoneRightToLeft units.now from result }
+{
+    let mut at = from;
+    while end - at >= HALF_UNIT_BLOCK && are_32_clear::<true>(units, at) {
+        at += HALF_UNIT_BLOCK;
+    }
+    at
+}
+
 /// Skips blocks of code units from `from` on, no farther than `end`, that aren't right-to-left, and returns the index that
 /// it reaches.
 #[inline(always)]
@@ -246,7 +259,11 @@ fn skip_clear_unit_blocks(units: &[u16], from: usize, end: usize) -> usize
     ensures no_rtl { NoneRightToLeft units.now from result }
 {
     let mut at = from;
-    while end - at >= HALF_UNIT_BLOCK && are_32_clear(units, at) {
+    while end - at >= HALF_UNIT_BLOCK {
+        if !are_32_clear::<false>(units, at) {
+            // the tables hold some more units for forms, and a text with these has many
+            return skip_unit_blocks_by_range(units, at, end);
+        }
         at += HALF_UNIT_BLOCK;
     }
     at
