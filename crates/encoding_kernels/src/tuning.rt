@@ -52,6 +52,13 @@ pub const VALIDATED_PIECE: usize = 4096;
 /// 0.97, logs 0.92 to 0.97; with 8,192, 0.97 to 1.00; with 32,768, 0.98 to 1.01.
 pub const CONVERTED_PIECE: usize = 16384;
 
+/// In bytes: how much is validated before it is converted to UTF-16, if it begins with a character and a run of ASCII. A source of
+/// at most twice as much stays in the nearest cache, so there such a run is copied at once.
+///
+/// Decoding ASCII with a character in 2,000 bytes, 16 KiB: if all runs are copied at once, 1.12, and for `x86-64-v3` 0.86.
+/// In an earlier timing for `x86-64-v3`, next to another build: 1.00, with 16,384 1.05, with 1,024 0.85.
+pub const CONVERTED_RUN: usize = 4096;
+
 /// In bytes, a multiple of two blocks: how much more ASCII is skipped after two blocks of it, before the ASCII prefix takes over.
 ///
 /// `utf8_valid_up_to`, 16 KiB, in a build without the toolchain: with 500, logs 0.86, JSON 0.94, ASCII with a character in

@@ -21,7 +21,7 @@ use encoding_kernels::scalar::{decode_utf8_scalar, write_utf16};
 use encoding_kernels::simd::copy::{copy_prefix, write_short};
 use encoding_kernels::simd::scan::{AllPass, BytesBelow};
 use encoding_kernels::simd::width::{ASCII_END, FOUR_BLOCKS, HALF_BLOCK};
-use encoding_kernels::tuning::CONVERTED_PIECE;
+use encoding_kernels::tuning::{CONVERTED_PIECE, CONVERTED_RUN};
 use encoding_kernels::utf8_to_utf16::text::{convert_short, convert_valid_utf8_to_utf16};
 
 /// What text is converted to: bytes of UTF-8, or code units of UTF-16.
@@ -138,8 +138,9 @@ pub(crate) fn convert_text(src: &[u8], dst: &mut [u16]) -> usize
 /// text needs few registers.
 ///
 /// A turn takes the ASCII prefix, then a well-formed piece that is short enough for its UTF-16 to fit, then one
-/// character. The test for ASCII is its validation, so the ASCII before a piece is read once. A character before a long run of
-/// ASCII is no piece, since the run would be read twice.
+/// character. The test for ASCII is its validation, so the ASCII before a piece is read once. In a short source a character before
+/// a long run of ASCII is no piece, since the run would be read twice. In a longer one the validation brings the run into the
+/// nearest cache.
 #[inline(never)]
 fn convert_turns(src: &[u8], dst: &mut [u16]) -> (usize, usize)
     ensures { ConvertsMaximal encode_utf16 src.now dst.old dst.new result.0 result.1 }
@@ -158,7 +159,11 @@ fn convert_turns(src: &[u8], dst: &mut [u16]) -> (usize, usize)
         };
         let before_run = src.len() - read >= 4 + FOUR_BLOCKS
             && AllPass::<HALF_BLOCK, FOUR_BLOCKS>::pass(&ascii, 4);
-        let most = if before_run { 0 } else { CONVERTED_PIECE };
+        let most = match before_run {
+            false => CONVERTED_PIECE,
+            true if src.len() > 2 * CONVERTED_RUN => CONVERTED_RUN,
+            true => 0,
+        };
         let piece = most.min(src.len() - read).min(dst.len() - written);
         let valid = utf8_valid_up_to(&src[read..read + piece]);
         written += convert_text(&src[read..read + valid], &mut dst[written..]);
