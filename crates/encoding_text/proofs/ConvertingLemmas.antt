@@ -18,7 +18,7 @@ use Rattle.encoding_definitions.specs.Converting.{AreScalarsOfValidPrefix, Conve
 use Rattle.encoding_text.specs.Steps.{ConvertsSome, ConvertsUntilFull}
 use Rattle.encoding_definitions.proofs.SequenceLemmas.{IsSequence-some}
 use Rattle.encoding_definitions.proofs.EncodingLemmas.{IsSequence-encode, flat_map-encode_utf8, encodes_one, length-utf16}
-use Rattle.encoding_definitions.proofs.PrefixesLemmas.{WritesPrefix_after, WritesPrefix-length, WritesPrefix-same, put_mid-same, IsLongestFittingPrefix-all, IsLongestFittingPrefix-stop, flat_map_push, length-prefix}
+use Rattle.encoding_definitions.proofs.PrefixesLemmas.{WritesPrefix_after, WritesPrefix_over, WritesPrefix-length, WritesPrefix-same, put_mid-same, IsLongestFittingPrefix-all, IsLongestFittingPrefix-stop, flat_map_push, length-prefix}
 use Rattle.encoding_definitions.proofs.Utf8Lemmas.{IsLongestPrefix-utf8, no_character_after}
 use Rattle.encoding_definitions.proofs.DecompositionLemmas.{has_parts}
 use Rattle.encoding_text.proofs.WholePrefixesLemmas as whole
@@ -232,6 +232,37 @@ module _ {A : Type 0} (encode : ℕ → List A) where
   converts_rest src old new sub read written n m d rest =
       converts_longest _ _ _ _ _ (converted_rest src old new sub read written n m d (converts_prefix _ _ _ _ _ (rw (take_rest src read) at rest)))
 
+-- ---- a call that goes on over what an earlier one converted
+module _ {A : Type 0} (encode : ℕ → List A) where
+  -- what is converted, converted again, changes nothing
+  pub converted_again : (src : List ℕ) (old new : List A) (read written : ℕ) → ConvertsSome encode src old new read written
+      → ConvertsSome encode src new new read written
+  converted_again src old new read written d =
+      let out = flat_map encode d.scalars in
+      let rest : drop written new ≡ drop written old = ap (drop written) d.writes.placed ∙ drop_at out (drop written old) written (sym d.writes.count) in
+      record {
+        scalars = d.scalars;
+        are_scalars = d.are_scalars;
+        within = d.within;
+        spelled = d.spelled;
+        writes = record {
+          count = d.writes.count;
+          fits = omega (arith, d.writes.fits, WritesPrefix-length old new written out d.writes);
+          placed = d.writes.placed ∙ ap (λ xs. out ++ xs) (sym rest);
+        };
+      }
+
+  pub converts_over : (src : List ℕ) (old mid new : List A) (n m read written : ℕ) → ConvertsSome encode src old mid n m → m ≤ written
+      → ConvertsMaximal encode src mid new read written → ConvertsMaximal encode src old new read written
+  converts_over src old mid new n m read written d l all = record {
+    scalars = all.scalars;
+    text = all.text;
+    out = all.out;
+    longest = subst (λ k. IsLongestFittingPrefix encode_utf8 encode all.scalars k read all.out)
+        (WritesPrefix-length old mid m (flat_map encode d.scalars) d.writes) all.longest;
+    writes = WritesPrefix_over old mid new m written (flat_map encode d.scalars) all.out d.writes all.writes l;
+  }
+
 -- ---- to UTF-8 itself: the prefix whose bytes fit
 pub copied_prefix : (src old new : List ℕ) (room n : ℕ) → room ≤ length src → room ≤ length old → (length src ≤ room) ⊎ (length old ≤ room)
     → IsLongestPrefix IsUtf8 (take room src) n
@@ -303,6 +334,15 @@ pub of_whole_prefix : (src old new : List ℕ) (n written : ℕ) → take n src 
 of_whole_prefix src old new n written all = subst (λ xs. WritesPrefix old new written (flat_map encode_utf16 (chars xs))) (sym all)
 
 -- ---- to UTF-16: an ASCII prefix more
+pub converted_run : (src old new sub : List ℕ) (read written n : ℕ) → ConvertsSome encode_utf16 src old new read written
+    → n ≤ length (drop read src) → IsAscii (take n (drop read src))
+    → WritesPrefix (take (length new - written) (drop written new)) sub n (take n (drop read src))
+    → ConvertsSome encode_utf16 src old (put_mid written (length new - written) new sub) (read + n) (written + n)
+converted_run src old new sub read written n d within ascii w =
+    let text = ascii_text (take n (drop read src)) ascii in
+    converted_text encode_utf16 src old new sub read written n n d text.0 within
+    (subst (λ xs. WritesPrefix (take (length new - written) (drop written new)) sub n xs) (sym text.1) w)
+
 pub converted_ascii : (src old new sub : List ℕ) (read written n : ℕ) → ConvertsSome encode_utf16 src old new read written
     → IsLongestPrefix IsAscii (take (length (take (length new - written) (drop written new))) (take (length src - read) (drop read src))) n
     → WritesPrefix (take (length new - written) (drop written new)) sub n (take n (take (length src - read) (drop read src)))
@@ -312,10 +352,20 @@ converted_ascii src old new sub read written n d p w =
     let room = length (take (length new - written) (drop written new)) in
     let prefix : IsLongestPrefix IsAscii (take room bytes) n = subst (λ xs. IsLongestPrefix IsAscii (take room xs) n) (take_rest src read) p in
     let within : n ≤ length (take room bytes) = prefix.within in
-    let ascii : IsAscii (take n bytes) = subst IsAscii (take-take n room bytes (omega (arith, within, length-take room bytes))) prefix.kind in
-    let text = ascii_text (take n bytes) ascii in
-    converted_text encode_utf16 src old new sub read written n n d text.0 (omega (arith, within, length-take room bytes))
-    (subst (λ xs. WritesPrefix (take (length new - written) (drop written new)) sub n xs) (ap (take n) (take_rest src read) ∙ sym text.1) w)
+    converted_run src old new sub read written n d (omega (arith, within, length-take room bytes))
+    (subst IsAscii (take-take n room bytes (omega (arith, within, length-take room bytes))) prefix.kind)
+    (subst (λ xs. WritesPrefix (take (length new - written) (drop written new)) sub n xs) (ap (take n) (take_rest src read)) w)
+
+-- the prefix of the first bytes that are left
+pub converted_fitting_ascii : (src old new sub : List ℕ) (read written room n : ℕ) → ConvertsSome encode_utf16 src old new read written
+    → IsLongestPrefix IsAscii (take room (drop read src)) n
+    → WritesPrefix (take (length new - written) (drop written new)) sub n (take n (take room (drop read src)))
+    → ConvertsSome encode_utf16 src old (put_mid written (length new - written) new sub) (read + n) (written + n)
+converted_fitting_ascii src old new sub read written room n d p w =
+    let bytes = drop read src in
+    let same : take n (take room bytes) ≡ take n bytes = take-take n room bytes (omega (arith, p.within, length-take room bytes)) in
+    converted_run src old new sub read written n d (omega (arith, p.within, length-take room bytes)) (subst IsAscii same p.kind)
+    (subst (λ xs. WritesPrefix (take (length new - written) (drop written new)) sub n xs) same w)
 
 text_length : (src cs : List ℕ) → (t : AreScalarsOfValidPrefix src cs) → length (encode_utf8_all cs) ≡ t.valid
 text_length src cs t = ap length t.spelled ∙ omega (arith, length-take t.valid src, t.prefix.within)
@@ -367,13 +417,12 @@ text_all_read src old new read written d l u =
     let all : length src ≤ d.text.valid = d.text.prefix.longest (length src) (omega arith) (subst IsUtf8 (sym (take_all (length src) src (omega arith))) u) in
     omega (arith, w.0, all, d.text.prefix.within)
 
--- the ASCII prefix at the start
-pub converted_first_ascii : (src old new : List ℕ) (m n : ℕ) → IsLongestPrefix IsAscii (take m src) n → WritesPrefix old new n (take n (take m src))
-    → ConvertsSome encode_utf16 src old new n n
-converted_first_ascii src old new m n p w =
-    let within : n ≤ length (take m src) = p.within in
+-- ASCII at the start
+pub converted_first_ascii : (src old new : List ℕ) (m n : ℕ) → n ≤ length (take m src) → IsAscii (take n (take m src))
+    → WritesPrefix old new n (take n (take m src)) → ConvertsSome encode_utf16 src old new n n
+converted_first_ascii src old new m n within ascii w =
     let same : take n (take m src) ≡ take n src = take-take n m src (omega (arith, within, length-take m src)) in
-    let text = ascii_text (take n src) (subst IsAscii same p.kind) in
+    let text = ascii_text (take n src) (subst IsAscii same ascii) in
     record {
       scalars = text.0.0;
       are_scalars = text.0.1.0;

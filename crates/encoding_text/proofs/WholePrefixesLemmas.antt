@@ -85,6 +85,13 @@ first_run xs run long r stops = elim (cases_lt run 64) [
   | inr b ↦ absurd (stops (λ k from to. r.pass k from (omega (arith, r.within, b))))
 ]
 
+-- a block isn't all ASCII, seen from an index
+pub later_block_stops : (xs : List ℕ) (n m : ℕ) → 64 ≤ m → (AllBelow 0x80 xs n 64 → ⊥) → AllBelow 0x80 (take m (drop n xs)) 0 64 → ⊥
+later_block_stops xs n m l stops all = stops (λ k from to.
+    let e : n + (k - n) ≡ k = omega arith in
+    subst (λ b. b < 0x80) (get_or-take m (drop n xs) (k - n) 0 (omega arith) ∙ get_or-drop n xs (k - n) 0 ∙ ap (slice_index xs) e)
+    (all (k - n) (omega arith) (omega arith)))
+
 -- the first n units, which are ASCII, and the others
 module _ (xs : List ℕ) (n : ℕ) (within : n ≤ length xs) where
   abbrev more : List ℕ
@@ -98,9 +105,7 @@ module _ (xs : List ℕ) (n : ℕ) (within : n ≤ length xs) where
 
   -- a block isn't all ASCII
   pub block_stops : n + 64 ≤ length xs → (AllBelow 0x80 xs n 64 → ⊥) → AllBelow 0x80 (take (length xs - n) (drop n xs)) 0 64 → ⊥
-  block_stops long stops all = stops (λ k from to.
-      let e : n + (k - n) ≡ k = omega arith in
-      subst (λ b. b < 0x80) (same (k - n) (omega arith) ∙ ap (slice_index xs) e) (all (k - n) (omega arith) (omega arith)))
+  block_stops long = later_block_stops xs n (length xs - n) (omega (arith, long))
 
   -- the prefix goes on among the others, and is copied
   module _ (known : BelowUpTo 0x80 xs n) (k : ℕ) (prefix : IsLongestPrefix IsAscii (take (length xs - n) (drop n xs)) k) where

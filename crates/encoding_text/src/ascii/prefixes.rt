@@ -220,16 +220,16 @@ pub(crate) fn copy_ascii_prefix(src: &[u8], dst: &mut [u8]) -> usize
 }
 
 /// Copies blocks of ASCII from the start, each byte as a UTF-16 code unit, and returns how many bytes these are: all if all are
-/// ASCII, since the last block may overlap the one before it.
+/// ASCII, since the last block may overlap the one before it. Inline, for a call outside loops on more than 64 bytes.
 #[inline(always)]
-fn unpack_blocks(src: &[u8], dst: &mut [u16]) -> usize
+pub(crate) fn unpack_blocks(src: &[u8], dst: &mut [u16]) -> usize
     requires dst_length { length src.now ≤ length dst.old }
     ensures within { result ≤ length src.now }
     ensures ascii { BelowUpTo 0x80 src.now result }
     ensures stops { result + 64 ≤ length src.now → AllBelow 0x80 src.now result 64 → ⊥ }
     ensures copied { WritesPrefix dst.old dst.new result (take result src.now) }
 {
-    if src.len() < BLOCK {
+    if src.len() < BLOCK || src[0] >= ASCII_END {
         return 0;
     }
     let last = src.len() - BLOCK;
@@ -249,7 +249,7 @@ fn unpack_blocks(src: &[u8], dst: &mut [u16]) -> usize
 /// are that many: one mask has its end, and two vectors copy what precedes that. Of fewer, the last stride may overlap the one
 /// before it, so a loop is left only fewer than sixteen. Out of line, so that callers inline `unpack_blocks`.
 #[inline(never)]
-fn unpack_rest(src: &[u8], dst: &mut [u16]) -> usize
+pub(crate) fn unpack_rest(src: &[u8], dst: &mut [u16]) -> usize
     requires dst_length { length src.now ≤ length dst.old }
     requires other { 64 ≤ length src.now → AllBelow 0x80 src.now 0 64 → ⊥ }
     ensures prefix { IsLongestPrefix IsAscii src.now result }
@@ -277,19 +277,15 @@ fn unpack_rest(src: &[u8], dst: &mut [u16]) -> usize
     last + run
 }
 
-/// Copies the longest ASCII prefix, each byte as a UTF-16 code unit, and returns its length. Inline, for a call outside loops on
-/// more than 64 bytes.
+/// Copies the longest ASCII prefix, each byte as a UTF-16 code unit, and returns its length. Inline, as `unpack_blocks` is.
 #[inline(always)]
 pub(crate) fn unpack_ascii_prefix(src: &[u8], dst: &mut [u16]) -> usize
     requires dst_length { length src.now ≤ length dst.old }
     ensures prefix { IsLongestPrefix IsAscii src.now result }
     ensures copied { WritesPrefix dst.old dst.new result (take result src.now) }
 {
-    if src.is_empty() || src[0] >= ASCII_END {
-        return 0;
-    }
     let at = unpack_blocks(src, dst);
-    if at == src.len() {
+    if at == src.len() || src[at] >= ASCII_END {
         return at;
     }
     at + unpack_rest(&src[at..], &mut dst[at..])

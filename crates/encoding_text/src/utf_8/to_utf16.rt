@@ -1,5 +1,5 @@
 //! From UTF-8 to UTF-16, and its twin from UTF-8 to UTF-8. A conversion leaves the rest of `dst` unchanged.
-ghost use Rattle.std.specs.Prelude.{◌≡◌, ℕ, ◌<◌, ◌≤◌, List, length, encode_utf8};
+ghost use Rattle.std.specs.Prelude.{◌≡◌, ℕ, ◌+◌, ◌<◌, ◌≤◌, List, length, encode_utf8};
 ghost use Rattle.std.proofs.Common.{arith, rules};
 ghost use Rattle.std.proofs.lemmas.Grind.{common_steps};
 ghost use Rattle.std.proofs.lemmas.Str.{length-encode, len_utf8_bounds};
@@ -9,12 +9,13 @@ ghost use Rattle.std.specs.Char.Escape.{encode_utf16};
 ghost use Rattle.std.specs.Str.{IsAscii, IsUtf8, chars};
 ghost use Rattle.encoding_definitions.specs.Prefixes.{WritesPrefix};
 ghost use Rattle.encoding_definitions.specs.Converting.{ConvertsMaximal};
-ghost use Rattle.encoding_text.specs.Steps.{ConvertsUntilFull};
+ghost use Rattle.encoding_kernels.specs.Scans.{AllBelow};
+ghost use Rattle.encoding_text.specs.Steps.{ConvertsSome, ConvertsUntilFull};
 
 use super::first::{First, character_length};
 use super::validate::{utf8_valid_up_to, valid_beyond_ascii, valid_up_to_by_vectors};
 use crate::ascii::prefixes::{
-    copy_prefix_of_text, copy_to_basic_latin, is_short, unpack_ascii_prefix,
+    copy_prefix_of_text, copy_to_basic_latin, is_short, unpack_blocks, unpack_rest,
 };
 use encoding_kernels::lengths::{LEAST_FOR_VECTORS, SHORT};
 use encoding_kernels::scalar::{decode_utf8_scalar, write_utf16};
@@ -134,19 +135,21 @@ pub(crate) fn convert_text(src: &[u8], dst: &mut [u16]) -> usize
     }
 }
 
-/// Converts UTF-8 to UTF-16 as `convert_utf8_to_utf16_up_to_invalid` does. Out of line, so that the ASCII before other
-/// text needs few registers.
+/// Converts UTF-8 to UTF-16 as `convert_utf8_to_utf16_up_to_invalid` does, except the first `ascii` bytes, which are converted. Out
+/// of line, so that the ASCII before other text needs few registers.
 ///
 /// A turn takes the ASCII prefix, then a well-formed piece that is short enough for its UTF-16 to fit, then one
 /// character. The test for ASCII is its validation, so the ASCII before a piece is read once. In a short source a character before
 /// a long run of ASCII is no piece, since the run would be read twice. In a longer one the validation brings the run into the
 /// nearest cache.
 #[inline(never)]
-fn convert_turns(src: &[u8], dst: &mut [u16]) -> (usize, usize)
-    ensures { ConvertsMaximal encode_utf16 src.now dst.old dst.new result.0 result.1 }
+fn convert_turns(src: &[u8], dst: &mut [u16], ascii: usize) -> (usize, usize)
+    requires { ConvertsSome encode_utf16 src.now dst.old dst.old ascii ascii }
+    ensures converts { ConvertsMaximal encode_utf16 src.now dst.old dst.new result.0 result.1 }
+    ensures after { ascii ≤ result.1 }
 {
-    let mut read = 0;
-    let mut written = 0;
+    let mut read = ascii;
+    let mut written = ascii;
     loop {
         if read < src.len() && src[read] < ASCII_END {
             let ascii = copy_to_basic_latin(&src[read..], &mut dst[written..]);
@@ -180,22 +183,42 @@ fn convert_turns(src: &[u8], dst: &mut [u16]) -> (usize, usize)
     }
 }
 
-/// Converts UTF-8 to UTF-16 as `convert_utf8_to_utf16_up_to_invalid` does: the ASCII prefix, and what follows it by turns. Out of
-/// line, so that a short text needs no more registers than it uses.
+/// Converts UTF-8 to UTF-16 as `convert_utf8_to_utf16_up_to_invalid` does, except the first `blocks` bytes, which are ASCII and
+/// converted: the rest of the ASCII prefix, and what follows it by turns. Out of line, so that ASCII needs no saved registers.
 #[inline(never)]
-fn convert_after_ascii(src: &[u8], dst: &mut [u16]) -> (usize, usize)
-    ensures { ConvertsMaximal encode_utf16 src.now dst.old dst.new result.0 result.1 }
+fn convert_after_blocks(src: &[u8], dst: &mut [u16], blocks: usize) -> (usize, usize)
+    requires within { blocks < length src.now }
+    requires start { ConvertsSome encode_utf16 src.now dst.old dst.old blocks blocks }
+    requires stops { blocks + 64 ≤ length src.now → blocks + 64 ≤ length dst.old → AllBelow 0x80 src.now blocks 64 → ⊥ }
+    ensures converts { ConvertsMaximal encode_utf16 src.now dst.old dst.new result.0 result.1 }
+    ensures after { blocks ≤ result.1 }
 {
-    let ascii = unpack_ascii_prefix(&src[..src.len().min(dst.len())], dst);
-    if ascii == src.len() {
-        return (ascii, ascii);
+    let mut ascii = blocks;
+    if src[blocks] < ASCII_END {
+        let fitting = src.len().min(dst.len());
+        ascii += unpack_rest(&src[blocks..fitting], &mut dst[blocks..]);
+        if ascii == src.len() {
+            return (ascii, ascii);
+        }
     }
     // between malformed sequences there is often only ASCII
     if src[ascii] >= ASCII_END && First::of_two(&src[ascii..]).is_some() {
         return (ascii, ascii);
     }
-    let (read, written) = convert_turns(&src[ascii..], &mut dst[ascii..]);
-    (ascii + read, ascii + written)
+    convert_turns(src, dst, ascii)
+}
+
+/// Converts UTF-8 to UTF-16 as `convert_utf8_to_utf16_up_to_invalid` does: blocks of ASCII, and what follows them. Out of line, so
+/// that a short text needs no more registers than it uses. Nothing follows the call at its end, so ASCII needs none saved.
+#[inline(never)]
+fn convert_after_ascii(src: &[u8], dst: &mut [u16]) -> (usize, usize)
+    ensures { ConvertsMaximal encode_utf16 src.now dst.old dst.new result.0 result.1 }
+{
+    let blocks = unpack_blocks(&src[..src.len().min(dst.len())], dst);
+    if blocks == src.len() {
+        return (blocks, blocks);
+    }
+    convert_after_blocks(src, dst, blocks)
 }
 
 /// Converts UTF-8 to UTF-16 up to the first byte that is in no character, or as far as whole characters fit. Returns

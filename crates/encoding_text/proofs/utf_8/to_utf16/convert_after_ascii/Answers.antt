@@ -1,30 +1,23 @@
-use Rattle.std.proofs.Common.{◌-◌, ◌≤◌, arith, length, length-take, length-drop, take, drop, sym, ◌∙◌}
+use Rattle.std.proofs.Common.{◌+◌, ◌≤◌, arith, length, length-take}
 use Rattle.std.specs.Char.Escape.{encode_utf16}
-use Rattle.std.proofs.lemmas.List.{take_rest}
-use Rattle.encoding_text.proofs.ConvertingLemmas.{converted_first_ascii, converted_rejected, converts_all, converts_longest, converts_prefix, converts_rest}
-use Rattle.encoding_text.proofs.FirstLemmas.{shown_none}
+use Rattle.encoding_text.proofs.ConvertingLemmas.{converted_again, converted_first_ascii, converts_all, converts_over}
+use Rattle.encoding_text.proofs.Latin1ConversionLemmas.{ascii_taken}
 use Rattle.encoding_text.proofs.utf_8.to_utf16.convert_after_ascii.Goals as goal
 
-pub returns-then-ascii-src : goal.returns-then-ascii-src
-returns-then-ascii-src c =
-    let start = converted_first_ascii _ _ _ _ _ c.unpack_ascii_prefix-ascii.ensures.prefix c.unpack_ascii_prefix-ascii.ensures.copied in
+pub returns-then-blocks-src : goal.returns-then-blocks-src
+returns-then-blocks-src c =
+    let blocks = c.unpack_blocks-blocks.ensures in
+    let start = converted_first_ascii _ _ _ _ _ blocks.within (ascii_taken _ _ blocks.ascii) blocks.copied in
     converts_all encode_utf16 _ _ _ _ _ (omega arith) start
 
-pub returns-then-is_some : goal.returns-then-is_some
-returns-then-is_some c =
-    let start = converted_first_ascii _ _ _ _ _ c.unpack_ascii_prefix-ascii.ensures.prefix c.unpack_ascii_prefix-ascii.ensures.copied in
-    let none = rw take_rest at (shown_none _ _ c.of_two.ensures.no_character (sym c.is_some.ensures ∙ c.if-is_some.true)) in
-    converts_longest encode_utf16 _ _ _ _ _ (converted_rejected encode_utf16 _ _ _ _ _ start none)
-
-pub overflow_add-result : goal.overflow_add-result
-overflow_add-result c =
-    let ascii = c.unpack_ascii_prefix-ascii.result in
-    let rest = drop ascii c.args.src.now in
-    let within : c.convert_turns-read.result.0 ≤ length (take (length c.args.src.now - ascii) rest) =
-    (converts_prefix encode_utf16 _ _ _ _ _ c.convert_turns-read.ensures).within in
-    omega (arith, within, length-take (length c.args.src.now - ascii) rest, length-drop ascii c.args.src.now)
+pub convert_after_blocks-requires-clause-start : goal.convert_after_blocks-requires-clause-start
+convert_after_blocks-requires-clause-start c =
+    let blocks = c.unpack_blocks-blocks.ensures in
+    let start = converted_first_ascii _ _ _ _ _ blocks.within (ascii_taken _ _ blocks.ascii) blocks.copied in
+    converted_again encode_utf16 _ _ _ _ _ start
 
 pub returns : goal.returns
 returns c =
-    let start = converted_first_ascii _ _ _ _ _ c.unpack_ascii_prefix-ascii.ensures.prefix c.unpack_ascii_prefix-ascii.ensures.copied in
-    converts_rest encode_utf16 _ _ _ _ _ _ _ _ start c.convert_turns-read.ensures
+    let blocks = c.unpack_blocks-blocks.ensures in
+    let start = converted_first_ascii _ _ _ _ _ blocks.within (ascii_taken _ _ blocks.ascii) blocks.copied in
+    converts_over encode_utf16 _ _ _ _ _ _ _ _ start c.convert_after_blocks.ensures.after c.convert_after_blocks.ensures.converts

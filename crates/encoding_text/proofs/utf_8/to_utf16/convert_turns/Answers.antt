@@ -36,24 +36,32 @@ loop-read-preserved c =
     elim c.if-read-src.branch [
       | then-read-src+then-src-read-lt-ASCII_END w ↦
           rw (w.dst-is, w.read-is, w.written-is)
-          (converted_ascii _ _ _ _ _ _ _ c.loop-read.invariant w.copy_to_basic_latin-ascii.ensures.prefix w.copy_to_basic_latin-ascii.ensures.copied)
-      | else-read-src w ↦ rw (w.dst-is, w.read-is, w.written-is) c.loop-read.invariant
+          (converted_ascii _ _ _ _ _ _ _ c.loop-read.invariant.converted w.copy_to_basic_latin-ascii.ensures.prefix w.copy_to_basic_latin-ascii.ensures.copied)
+      | else-read-src w ↦ rw (w.dst-is, w.read-is, w.written-is) c.loop-read.invariant.converted
+    ] in
+    let after : c.args.ascii ≤ c.if-read-src.written =
+    elim c.if-read-src.branch [
+      | then-read-src+then-src-read-lt-ASCII_END w ↦ omega (arith, c.loop-read.invariant.after, w.written-is)
+      | else-read-src w ↦ omega (arith, c.loop-read.invariant.after, w.written-is)
     ] in
     let text = text_after _ _ _ _ _ _ _ _ _ ascii c.utf8_valid_up_to-valid.ensures c.convert_text-written.ensures in
     let at = c.if-read-src.read + c.utf8_valid_up_to-valid.result in
     let found = rw take_rest at c.in-Some.ensures.length in
     let size : at + c.in-Some.length - at ≡ c.in-Some.length = omega arith in
     let s = c.decode_utf8_scalar-scalar.ensures in
-    converted_more encode_utf16 _ _ _ _ _ _ _ c.in-Some.length _ text s.scalar (rw size at s.spelled) found.1 c.in-Some-write_utf16.ensures.written
+    record {
+      converted = converted_more encode_utf16 _ _ _ _ _ _ _ c.in-Some.length _ text s.scalar (rw size at s.spelled) found.1 c.in-Some-write_utf16.ensures.written;
+      after = omega (arith, after);
+    }
 
-pub returns-in_default-write_utf16 : goal.returns-in_default-write_utf16
-returns-in_default-write_utf16 c =
+pub returns-in_default-write_utf16-clause-converts : goal.returns-in_default-write_utf16-clause-converts
+returns-in_default-write_utf16-clause-converts c =
     let ascii : ConvertsSome encode_utf16 c.args.src.now c.args.dst.now c.if-read-src.dst c.if-read-src.read c.if-read-src.written =
     elim c.if-read-src.branch [
       | then-read-src+then-src-read-lt-ASCII_END w ↦
           rw (w.dst-is, w.read-is, w.written-is)
-          (converted_ascii _ _ _ _ _ _ _ c.loop-read.invariant w.copy_to_basic_latin-ascii.ensures.prefix w.copy_to_basic_latin-ascii.ensures.copied)
-      | else-read-src w ↦ rw (w.dst-is, w.read-is, w.written-is) c.loop-read.invariant
+          (converted_ascii _ _ _ _ _ _ _ c.loop-read.invariant.converted w.copy_to_basic_latin-ascii.ensures.prefix w.copy_to_basic_latin-ascii.ensures.copied)
+      | else-read-src w ↦ rw (w.dst-is, w.read-is, w.written-is) c.loop-read.invariant.converted
     ] in
     let text = text_after _ _ _ _ _ _ _ _ _ ascii c.utf8_valid_up_to-valid.ensures c.convert_text-written.ensures in
     let at = c.if-read-src.read + c.utf8_valid_up_to-valid.result in
@@ -62,14 +70,14 @@ returns-in_default-write_utf16 c =
     let unfit = c.in_default-write_utf16.ensures.unfit in
     converts_longest encode_utf16 _ _ _ _ _ (converted_unfit encode_utf16 _ _ _ _ _ _ _ c.in-Some.length text s.scalar (rw size at s.spelled) unfit.1 unfit.0)
 
-pub returns-in_default : goal.returns-in_default
-returns-in_default c =
+pub returns-in_default-clause-converts : goal.returns-in_default-clause-converts
+returns-in_default-clause-converts c =
     let ascii : ConvertsSome encode_utf16 c.args.src.now c.args.dst.now c.if-read-src.dst c.if-read-src.read c.if-read-src.written =
     elim c.if-read-src.branch [
       | then-read-src+then-src-read-lt-ASCII_END w ↦
           rw (w.dst-is, w.read-is, w.written-is)
-          (converted_ascii _ _ _ _ _ _ _ c.loop-read.invariant w.copy_to_basic_latin-ascii.ensures.prefix w.copy_to_basic_latin-ascii.ensures.copied)
-      | else-read-src w ↦ rw (w.dst-is, w.read-is, w.written-is) c.loop-read.invariant
+          (converted_ascii _ _ _ _ _ _ _ c.loop-read.invariant.converted w.copy_to_basic_latin-ascii.ensures.prefix w.copy_to_basic_latin-ascii.ensures.copied)
+      | else-read-src w ↦ rw (w.dst-is, w.read-is, w.written-is) c.loop-read.invariant.converted
     ] in
     let text = text_after _ _ _ _ _ _ _ _ _ ascii c.utf8_valid_up_to-valid.ensures c.convert_text-written.ensures in
     converts_longest encode_utf16 _ _ _ _ _ (converted_rejected encode_utf16 _ _ _ _ _ text (rw take_rest at c.in_default.ensures.no_character))
