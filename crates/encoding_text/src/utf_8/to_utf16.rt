@@ -189,7 +189,8 @@ fn convert_turns(src: &[u8], dst: &mut [u16], ascii: usize) -> (usize, usize)
 fn convert_after_blocks(src: &[u8], dst: &mut [u16], blocks: usize) -> (usize, usize)
     requires within { blocks < length src.now }
     requires start { ConvertsSome encode_utf16 src.now dst.old dst.old blocks blocks }
-    requires stops { blocks + 64 ≤ length src.now → blocks + 64 ≤ length dst.old → AllBelow 0x80 src.now blocks 64 → ⊥ }
+    requires stops { blocks + 64 ≤ length src.now → blocks + 64 ≤ length dst.old
+        → AllBelow 0x80 src.now blocks 64 → ⊥ }
     ensures converts { ConvertsMaximal encode_utf16 src.now dst.old dst.new result.0 result.1 }
     ensures after { blocks ≤ result.1 }
 {

@@ -1,4 +1,4 @@
-use Rattle.std.proofs.Common.{◌+◌, ◌≤◌, arith, length, length-take}
+use Rattle.std.proofs.Common.{arith}
 use Rattle.std.specs.Char.Escape.{encode_utf16}
 use Rattle.encoding_text.proofs.ConvertingLemmas.{converted_again, converted_first_ascii, converts_all, converts_over}
 use Rattle.encoding_text.proofs.Latin1ConversionLemmas.{ascii_taken}

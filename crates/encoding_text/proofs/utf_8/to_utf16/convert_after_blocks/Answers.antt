@@ -1,4 +1,4 @@
-use Rattle.std.proofs.Common.{◌-◌, ◌+◌, ◌≤◌, arith, length, length-take, length-drop, take, drop, sym, ◌∙◌}
+use Rattle.std.proofs.Common.{◌-◌, ◌≤◌, arith, length-take, drop, sym, ◌∙◌}
 use Rattle.std.specs.Char.Escape.{encode_utf16}
 use Rattle.std.proofs.lemmas.List.{take_rest}
 use Rattle.encoding_text.specs.Steps.{ConvertsSome}
@@ -24,10 +24,12 @@ returns-then-ascii-src-clause-converts c =
 
 pub returns-then-is_some-clause-converts : goal.returns-then-is_some-clause-converts
 returns-then-is_some-clause-converts c =
-    let start : ConvertsSome encode_utf16 c.args.src.now c.args.dst.now c.if-src-blocks-lt-ASCII_END.dst c.if-src-blocks-lt-ASCII_END.ascii c.if-src-blocks-lt-ASCII_END.ascii =
+    let start : ConvertsSome encode_utf16 c.args.src.now c.args.dst.now c.if-src-blocks-lt-ASCII_END.dst c.if-src-blocks-lt-ASCII_END.ascii
+    c.if-src-blocks-lt-ASCII_END.ascii =
     elim c.if-src-blocks-lt-ASCII_END.branch [
       | then-src-blocks-lt-ASCII_END+else-ascii-src w ↦
-          rw (w.dst-is, w.ascii-is) (converted_fitting_ascii _ _ _ _ _ _ _ _ c.requires.start w.unpack_rest-ascii.ensures.prefix w.unpack_rest-ascii.ensures.copied)
+          rw (w.dst-is, w.ascii-is)
+          (converted_fitting_ascii _ _ _ _ _ _ _ _ c.requires.start w.unpack_rest-ascii.ensures.prefix w.unpack_rest-ascii.ensures.copied)
       | else-src-blocks-lt-ASCII_END w ↦ rw (w.dst-is, w.ascii-is) c.requires.start
     ] in
     let none = rw take_rest at (shown_none _ _ c.of_two.ensures.no_character (sym c.is_some.ensures ∙ c.if-is_some.true)) in
@@ -45,10 +47,12 @@ convert_turns-requires c =
 
 pub returns-clause-converts : goal.returns-clause-converts
 returns-clause-converts c =
-    let start : ConvertsSome encode_utf16 c.args.src.now c.args.dst.now c.if-src-blocks-lt-ASCII_END.dst c.if-src-blocks-lt-ASCII_END.ascii c.if-src-blocks-lt-ASCII_END.ascii =
+    let start : ConvertsSome encode_utf16 c.args.src.now c.args.dst.now c.if-src-blocks-lt-ASCII_END.dst c.if-src-blocks-lt-ASCII_END.ascii
+    c.if-src-blocks-lt-ASCII_END.ascii =
     elim c.if-src-blocks-lt-ASCII_END.branch [
       | then-src-blocks-lt-ASCII_END+else-ascii-src w ↦
-          rw (w.dst-is, w.ascii-is) (converted_fitting_ascii _ _ _ _ _ _ _ _ c.requires.start w.unpack_rest-ascii.ensures.prefix w.unpack_rest-ascii.ensures.copied)
+          rw (w.dst-is, w.ascii-is)
+          (converted_fitting_ascii _ _ _ _ _ _ _ _ c.requires.start w.unpack_rest-ascii.ensures.prefix w.unpack_rest-ascii.ensures.copied)
       | else-src-blocks-lt-ASCII_END w ↦ rw (w.dst-is, w.ascii-is) c.requires.start
     ] in
     converts_over encode_utf16 _ _ _ _ _ _ _ _ start c.convert_turns.ensures.after c.convert_turns.ensures.converts

@@ -50,7 +50,8 @@ loop-read-preserved c =
     let size : at + c.in-Some.length - at ≡ c.in-Some.length = omega arith in
     let s = c.decode_utf8_scalar-scalar.ensures in
     record {
-      converted = converted_more encode_utf16 _ _ _ _ _ _ _ c.in-Some.length _ text s.scalar (rw size at s.spelled) found.1 c.in-Some-write_utf16.ensures.written;
+      converted = converted_more encode_utf16 _ _ _ _ _ _ _ c.in-Some.length _ text s.scalar
+          (rw size at s.spelled) found.1 c.in-Some-write_utf16.ensures.written;
       after = omega (arith, after);
     }
 
