@@ -8,7 +8,7 @@ use Rattle.std.specs.Str.{all_scalars, IsAscii, IsUtf8, chars}
 use Rattle.std.specs.List.{flat_map}
 use Rattle.std.proofs.lemmas.Bool.{and_from, and_parts, cases_lt}
 use Rattle.std.proofs.lemmas.Grind.{flat_map-append}
-use Rattle.std.proofs.lemmas.List.{append-nil, append_assoc, length-append, length-drop, length-take, length-take-le, take_at, drop_at, drop-drop, take_rest, take-append-drop, take-take, take_all}
+use Rattle.std.proofs.lemmas.List.{append-nil, append_assoc, length-append, length-drop, length-take, length-take-le, take_at, drop_at, take_rest, take-append-drop, take-take, take_all}
 use Rattle.std.proofs.lemmas.Str.{encodes-append, encode_same, length-encode, len_utf8_bounds, IsUtf8-encode, IsUtf8-append, chars_from_encodes}
 use Rattle.std.proofs.str.Laws.{scalars-append}
 use borrow.Rule.Slice.PartMut.{put_mid}
@@ -78,21 +78,6 @@ module _ {A : Type 0} (encode : ℕ → List A) where
       → (FittingBegins encode (drop read src) (length old - written) → ⊥)
       → ConvertsUntilFull encode src old new read written
   converted_stops d n = record { scalars = d.scalars; are_scalars = d.are_scalars; within = d.within; spelled = d.spelled; writes = d.writes; stops = n }
-
-  -- the rest is converted
-  pub converted_rest : (src : List ℕ) (old new sub : List A) (read written n m : ℕ) → ConvertsSome encode src old new read written
-      → ConvertsUntilFull encode (drop read src) (take (length new - written) (drop written new)) sub n m
-      → ConvertsUntilFull encode src old (put_mid written (length new - written) new sub) (read + n) (written + m)
-  converted_rest src old new sub read written n m d e =
-      let text : IsUtf8 (take n (drop read src)) = (e.scalars, (e.are_scalars, e.spelled)) in
-      let out : flat_map encode e.scalars ≡ flat_map encode (chars (take n (drop read src))) =
-      ap (flat_map encode) (chars_from_encodes e.scalars _ text e.spelled) in
-      let room : length old - (written + m) ≡ length (take (length new - written) (drop written new)) - m =
-      omega (arith, ap length (take_rest new written), length-drop written new, WritesPrefix-length old new written (flat_map encode d.scalars) d.writes) in
-      let some =
-      converted_text src old new sub read written n m d text e.within
-      (subst (λ xs. WritesPrefix (take (length new - written) (drop written new)) sub m xs) out e.writes) in
-      converted_stops some (λ f. e.stops (rw (sym (drop-drop n read src), room) at f))
 
   pub converted_rejected : (src : List ℕ) (old new : List A) (read written : ℕ) → ConvertsSome encode src old new read written
       → BeginsWithNoCharacter (drop read src)
@@ -226,15 +211,9 @@ module _ {A : Type 0} (encode : ℕ → List A) where
         writes = subst (λ cs. WritesPrefix old new written (flat_map encode cs)) (sym same) w;
       }) (no_character_after src n p))
 
-  pub converts_rest : (src : List ℕ) (old new sub : List A) (read written n m : ℕ) → ConvertsSome encode src old new read written
-      → ConvertsMaximal encode (take (length src - read) (drop read src)) (take (length new - written) (drop written new)) sub n m
-      → ConvertsMaximal encode src old (put_mid written (length new - written) new sub) (read + n) (written + m)
-  converts_rest src old new sub read written n m d rest =
-      converts_longest _ _ _ _ _ (converted_rest src old new sub read written n m d (converts_prefix _ _ _ _ _ (rw (take_rest src read) at rest)))
-
--- ---- a call that goes on over what an earlier one converted
+-- ---- a call that continues after what an earlier one converted
 module _ {A : Type 0} (encode : ℕ → List A) where
-  -- what is converted, converted again, changes nothing
+  -- to convert the same prefix again changes nothing
   pub converted_again : (src : List ℕ) (old new : List A) (read written : ℕ) → ConvertsSome encode src old new read written
       → ConvertsSome encode src new new read written
   converted_again src old new read written d =
@@ -252,6 +231,7 @@ module _ {A : Type 0} (encode : ℕ → List A) where
         };
       }
 
+  -- the first call's destination, and the second call's result
   pub converts_over : (src : List ℕ) (old mid new : List A) (n m read written : ℕ) → ConvertsSome encode src old mid n m → m ≤ written
       → ConvertsMaximal encode src mid new read written → ConvertsMaximal encode src old new read written
   converts_over src old mid new n m read written d l all = record {

@@ -189,8 +189,9 @@ impl<'a, const N: usize> AllPass<N, N> for NoForms<'a> {
     }
 }
 
-/// Returns whether none of the 32 code units from `at` on is right-to-left, with the forms by their range or by the tables. May
-/// return false if there is one of D80A, D80B, D832, D833, or FE10 to FE6F, and by the tables also FB10 to FB1C.
+/// Returns whether none of the 32 code units from `at` on is right-to-left. `FORMS_BY_RANGE` tests presentation forms by their
+/// range and not by the tables. May return false if there is one of D80A, D80B, D832, D833, or FE10 to FE6F. By the tables it may
+/// also for FB10 to FB1C and FEFF, and by the range for FE00 to FE0F.
 #[inline(always)]
 fn are_32_clear<const FORMS_BY_RANGE: bool>(units: &[u16], at: usize) -> bool
     requires { at + 32 ≤ length units.now }
@@ -236,7 +237,7 @@ impl<'a, const N: usize> AllPass<N, N> for ClearUnits<'a> {
     }
 }
 
-/// Skips blocks as `skip_clear_unit_blocks` does, with the forms by their range.
+/// Skips blocks as `skip_clear_unit_blocks` does, and tests each one's presentation forms by their range.
 #[inline(always)]
 fn skip_unit_blocks_by_range(units: &[u16], from: usize, end: usize) -> usize
     requires { (from ≤ end) × (end ≤ length units.now) }
