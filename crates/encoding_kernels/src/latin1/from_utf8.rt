@@ -1,12 +1,13 @@
 //! Latin1 of sixteen and of 32 bytes of UTF-8: the kept bytes of pairs are looked up by a mask, as in the other direction.
 
-ghost use Rattle.std.specs.Prelude.{◌≡◌, ℕ, ◌+◌, ◌*◌, ◌<◌, ◌≤◌, ◌⊎◌, ◌∷◌, ◌++◌, length, take, drop, slice_index};
+ghost use Rattle.std.specs.Prelude.{◌≡◌, ℕ, ◌+◌, ◌*◌, ◌<◌, ◌≤◌, ◌⊎◌, ◌∷◌, ◌++◌, length, take, drop, replicate, slice_index};
 ghost use Rattle.std.specs.Simd.Lanes.{mask_l};
 ghost use Rattle.encoding_kernels.specs.KeptBytes.{EndsPair, all_latin1_ended, both_end};
 
 use crate::simd::compress::keep_pairs;
-use crate::simd::width::STRIDE;
-use crate::utf8::validate::lanes_before;
+use crate::simd::copy::copy_prefix;
+use crate::simd::width::{HALF_STRIDE, STRIDE};
+use crate::utf8::validate::{lanes_before, with_zeros};
 use std::simd::prelude::*;
 
 /// Returns for each pair of bytes the Latin1 bytes that its bytes end, given the byte before each byte. If they end one,
@@ -114,4 +115,18 @@ pub fn latin1_length_of_first(block: u8x16, count: usize) -> usize
 {
     let leads = block.simd_ge(u8x16::splat(0xC0)).to_bitmask() as usize & ((1 << count) - 1);
     count - leads.count_ones() as usize
+}
+
+/// Returns at most sixteen bytes, followed by zeros. Fewer than eight are copied into an array, since they fill no vector.
+#[inline(always)]
+pub fn few_with_zeros(src: &[u8]) -> u8x16
+    requires { length src.now ≤ 16 }
+    ensures { result ≡ src.now ++ drop (length src.now) (replicate 16 0) }
+{
+    if src.len() >= HALF_STRIDE {
+        return with_zeros(src);
+    }
+    let mut bytes = [0; STRIDE];
+    copy_prefix(src, &mut bytes);
+    u8x16::from_slice(&bytes)
 }

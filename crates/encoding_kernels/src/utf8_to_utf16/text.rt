@@ -62,6 +62,27 @@ fn begins_triples(src: &[u8]) -> bool
     !others.any()
 }
 
+/// Returns how many of the first eight characters have three bytes, up to the first that hasn't.
+#[inline(always)]
+fn leading_triples(src: &[u8]) -> usize
+    requires { 24 ≤ length src.now }
+    ensures { (result ≤ 8)
+        × ((k : ℕ) → k < result → BeginsThree (slice_index src.now (3 * k))) }
+{
+    let first = u8x16::from_slice(src) & u8x16::from_array(LEAD_BITS);
+    let later = u8x16::from_slice(&src[8..]) & u8x16::from_array(LATER_BITS);
+    let others = first.simd_ne(u8x16::from_array(LEAD_VALUES)).to_bitmask();
+    let others_later = later.simd_ne(u8x16::from_array(LATER_VALUES)).to_bitmask();
+    let before = run_before::<16>(others);
+    let before_later = run_before::<16>(others_later);
+    let end = if before < 16 {
+        before
+    } else {
+        8 + before_later
+    };
+    end / 3
+}
+
 /// Writes the UTF-16 of the first `count` characters, of three bytes each. The first eight code units may have changed.
 #[inline(always)]
 fn write_triples(src: &[u8], count: usize, dst: &mut [u16])
@@ -112,9 +133,26 @@ fn write_group<const N: usize>(src: &[u8], dst: &mut [u16]) -> (usize, usize)
     )
 }
 
+/// Writes the UTF-16 of the first character, and if that is ASCII, of the second too. Returns how many bytes it read and how many
+/// code units it wrote. An emoji often follows a mark, and text follows both.
+#[inline(always)]
+fn write_mark_and_character(src: &[u8], dst: &mut [u16]) -> (usize, usize)
+    requires dst_length { (1 < length src.now) × (length src.now ≤ length dst.old) }
+    requires text { IsUtf8 src.now }
+    ensures progress { 0 < result.0 }
+    ensures written { WritesUtf16 src.now dst.old dst.new result.0 result.1 (units_in src.now) }
+{
+    if src[0] >= ASCII_END {
+        return write_character(src, dst);
+    }
+    dst[0] = u16::from(src[0]);
+    let (bytes, units) = write_character(&src[1..], &mut dst[1..]);
+    (1 + bytes, 1 + units)
+}
+
 /// Writes the UTF-16 of the first characters of a text as `write_group` does, or of fewer. If characters of three bytes come
-/// first, one of four begins in the block after them, and the last 32 bytes have no more of four, only those and the block are
-/// written. Out of line, since few texts have characters of four bytes.
+/// first, then one of four, perhaps after ASCII, and the last 32 bytes have no more of four, only those are written. Out of line,
+/// since few texts have characters of four bytes.
 #[inline(never)]
 fn write_with_pairs(src: &[u8], dst: &mut [u16]) -> (usize, usize)
     requires dst_length { (88 ≤ length src.now) × (length src.now ≤ length dst.old) }
@@ -123,23 +161,11 @@ fn write_with_pairs(src: &[u8], dst: &mut [u16]) -> (usize, usize)
     ensures written { WritesUtf16 src.now dst.old dst.new result.0 result.1 (units_in src.now) }
 {
     if src[0] & 0xF0 == 0xE0 && are_bytes_below::<HALF_BLOCK>(src, HALF_BLOCK, FOUR_BYTES) {
-        // how many of the first eight characters have three bytes, up to the first that hasn't
-        let first = u8x16::from_slice(src) & u8x16::from_array(LEAD_BITS);
-        let later = u8x16::from_slice(&src[8..]) & u8x16::from_array(LATER_BITS);
-        let others = first.simd_ne(u8x16::from_array(LEAD_VALUES)).to_bitmask();
-        let others_later = later.simd_ne(u8x16::from_array(LATER_VALUES)).to_bitmask();
-        let before = run_before::<16>(others);
-        let before_later = run_before::<16>(others_later);
-        let end = if before < 16 {
-            before
-        } else {
-            8 + before_later
-        };
-        let count = end / 3;
+        let count = leading_triples(src);
         let read = 3 * count;
-        if !are_bytes_below::<STRIDE>(src, read, FOUR_BYTES) {
+        if src[read + usize::from(src[read] < ASCII_END)] >= FOUR_BYTES {
             write_triples(src, count, dst);
-            let (bytes, units) = write_block(&src[read..], &mut dst[count..]);
+            let (bytes, units) = write_mark_and_character(&src[read..], &mut dst[count..]);
             return (read + bytes, count + units);
         }
     }

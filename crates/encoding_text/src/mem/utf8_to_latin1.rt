@@ -9,9 +9,9 @@ ghost use Rattle.encoding_definitions.specs.Latin1.{IsUtf8Latin1};
 use super::latin1::copy_ascii;
 use crate::ascii::prefixes::copy_blocks;
 use encoding_kernels::latin1::from_utf8::{
-    latin1_length_of_first, latin1_of, latin1_of_after, write_latin1_of_two,
+    few_with_zeros, latin1_length_of_first, latin1_of, latin1_of_after, write_latin1_of_two,
 };
-use encoding_kernels::simd::copy::{write_first, write_short};
+use encoding_kernels::simd::copy::{copy_prefix, write_first, write_short};
 use encoding_kernels::simd::scan::{BytesBelow, are_bytes_below};
 use encoding_kernels::simd::width::{ASCII_END, BLOCK, STRIDE, TWO_BLOCKS};
 use encoding_kernels::tuning::BLOCKS_BEFORE_RETEST;
@@ -119,6 +119,21 @@ fn convert_utf8_turns(src: &[u8], dst: &mut [u8], from: usize, to: usize) -> usi
     written
 }
 
+/// Converts fewer than sixteen bytes of Latin1 text in UTF-8 as `convert_utf8_to_latin1` does. Zeros follow them in a vector, and each
+/// of these is a byte of Latin1 too. An array holds the Latin1, since `dst` may have no space for a vector.
+#[inline(never)]
+fn convert_least_utf8(src: &[u8], dst: &mut [u8]) -> usize
+    requires src_length { length src.now < 16 }
+    requires dst_length { length (chars src.now) ≤ length dst.old }
+    requires latin1 { IsUtf8Latin1 src.now }
+    ensures written { WritesPrefix dst.old dst.new result (chars src.now) }
+{
+    let (bytes, count) = latin1_of(few_with_zeros(src));
+    let length = count - (STRIDE - src.len());
+    copy_prefix(&bytes.to_array()[..length], dst);
+    length
+}
+
 /// Converts Latin1 text in UTF-8 as `convert_utf8_to_latin1` does, by blocks from the first byte on, even if ASCII comes
 /// first. Turns follow only if these leave something. Out of line, so that ASCII alone needs few registers.
 #[inline(never)]
@@ -168,6 +183,9 @@ pub fn convert_utf8_to_latin1(src: &[u8], dst: &mut [u8]) -> usize
     };
     if src.len() <= dst.len() && write_short::<TWO_BLOCKS, _, _>(&ascii, src.len(), dst) {
         return src.len();
+    }
+    if src.len() < STRIDE {
+        return convert_least_utf8(src, dst);
     }
     convert_few_utf8(src, dst)
 }

@@ -1,117 +1,42 @@
-use Rattle.std.proofs.Common.{◌≡◌, ℕ, ◌+◌, ◌-◌, ◌*◌, ◌/◌, ◌<◌, ◌≤◌, ◌⊎◌, ◌∙◌, Bool, List, Fits, arith, bit_and, eqb, get_or, inl, inr, length, not, refl, sym, w8}
-use Rattle.std.proofs.lemmas.Bool.{cases_lt}
+use Rattle.std.proofs.Common.{◌*◌, ◌<◌, Bool, arith, false, get_or, ltb, true}
 use Rattle.std.proofs.lemmas.List.{take_rest}
-use Rattle.encoding_kernels.specs.EndingUnits.{BeginsThree}
-use Rattle.encoding_kernels.specs.declared.utf8_to_utf16.text.TheConstants.{LEAD_BITS, LEAD_VALUES, LATER_BITS, LATER_VALUES}
-use Rattle.encoding_kernels.proofs.GroupLemmas.{three_from}
-use Rattle.encoding_kernels.proofs.MaskLemmas.{run_is_first, tests_of}
 use Rattle.encoding_kernels.proofs.Utf8ToUtf16LoopLemmas.{due_block, putting_first, putting_more, putting_some}
-use Rattle.encoding_kernels.proofs.VectorLemmas.{HasLanes-itself, HasLanes-zip2, HasLanes_load, IsFirstSet, compared, mask_of, same_below}
 use Rattle.encoding_kernels.proofs.utf8_to_utf16.text.write_with_pairs.Goals as goal
-use Rattle.encoding_kernels.proofs.utf8_to_utf16.text.write_with_pairs.Goals.{then-before-lt16, else-before-lt16}
-use lib.Count.{count_trailing_zeros}
-use lib.Lanes.{zip2, chunk}
-use mir.Val.{hbits}
+use mir.Val.{bool_byte}
 
--- whether the byte at k of the sixteen from `at` on is none that begins three, where one is to
-abbrev other : List ℕ → ℕ → List ℕ → List ℕ → ℕ → Bool
-other src at bits values k = not (eqb (bit_and (get_or src (at + k) 0) (get_or bits k 0)) (get_or values k 0))
+-- a bit is 0 or 1
+bit : (b : Bool) → bool_byte b < 2
+bit true = omega arith
+bit false = omega arith
 
-abbrev mask : List ℕ → ℕ → List ℕ → List ℕ → ℕ
-mask src at bits values = mask_of (hbits w8) (zip2 (compared w8 (λ a b. not (eqb a b))) (zip2 bit_and (chunk at 16 src) bits) values)
+pub bounds-src-read : goal.bounds-src-read
+bounds-src-read c = omega (arith, c.leading_triples-count.ensures.0, c.requires.dst_length)
 
-run : (src : List ℕ) (at : ℕ) (bits values : List ℕ) → at + 16 ≤ length src → length bits ≡ 16 → length values ≡ 16
-    → (r : ℕ) → (mask src at bits values ≡ 0 → r ≡ 16) → (0 < mask src at bits values → r ≡ count_trailing_zeros 64 (mask src at bits values))
-    → IsFirstSet 16 r (other src at bits values)
-run src at bits values room b v =
-    run_is_first (tests_of w8 (λ a b. not (eqb a b)) (HasLanes-zip2 bit_and (HasLanes_load at 16 src room) (HasLanes-itself 16 bits b))
-    (HasLanes-itself 16 values v)) (omega arith)
+pub bounds-src-read-then-are_bytes_below : goal.bounds-src-read-then-are_bytes_below
+bounds-src-read-then-are_bytes_below c = omega (
+  arith,
+  c.leading_triples-count.ensures.0,
+  c.requires.dst_length,
+  c.from.ensures,
+  bit (ltb (get_or c.args.src.now (3 * c.leading_triples-count.result) 0) 0x80),
+)
 
--- where the characters of three bytes end
-abbrev Ends : ℕ → ℕ → ℕ → Type 0
-Ends before later end = (end ≡ before) ⊎ ((16 ≤ before) × (end ≡ 8 + later))
+pub overflow_add-read : goal.overflow_add-read
+overflow_add-read c = omega (
+  arith,
+  c.leading_triples-count.ensures.0,
+  c.from.ensures,
+  bit (ltb (get_or c.args.src.now (3 * c.leading_triples-count.result) 0) 0x80),
+)
 
-module _ (src : List ℕ) (bytes : (k : ℕ) → Fits w8 (get_or src k 0)) (room : 24 ≤ length src) (before later end : ℕ)
-    (no_first : mask src 0 LEAD_BITS LEAD_VALUES ≡ 0 → before ≡ 16)
-    (some_first : 0 < mask src 0 LEAD_BITS LEAD_VALUES → before ≡ count_trailing_zeros 64 (mask src 0 LEAD_BITS LEAD_VALUES))
-    (no_later : mask src 8 LATER_BITS LATER_VALUES ≡ 0 → later ≡ 16)
-    (some_later : 0 < mask src 8 LATER_BITS LATER_VALUES → later ≡ count_trailing_zeros 64 (mask src 8 LATER_BITS LATER_VALUES))
-    (ends : Ends before later end) where
-  first : IsFirstSet 16 before (other src 0 LEAD_BITS LEAD_VALUES)
-  first = run src 0 LEAD_BITS LEAD_VALUES (omega arith) refl refl before no_first some_first
+pub write_mark_and_character-bytes-requires-clause-dst_length : goal.write_mark_and_character-bytes-requires-clause-dst_length
+write_mark_and_character-bytes-requires-clause-dst_length c = omega (arith, c.leading_triples-count.ensures.0, c.requires.dst_length)
 
-  second : IsFirstSet 16 later (other src 8 LATER_BITS LATER_VALUES)
-  second = run src 8 LATER_BITS LATER_VALUES (omega arith) refl refl later no_later some_later
-
-  early : (k : ℕ) → 3 * k < before → BeginsThree (get_or src (3 * k) 0)
-  early k m =
-      let six : k < 6 = omega (arith, first.within, m) in
-      let there : 0 + 3 * k ≡ 3 * k = omega arith in
-      three_from (get_or src (3 * k) 0) (bytes (3 * k)).fits
-      (sym (λ i. not (eqb (bit_and (get_or src (there i) 0) (same_below (λ j. get_or LEAD_BITS (3 * j) 0) (λ _. 0xF0) 0 6 refl k six i))
-      (same_below (λ j. get_or LEAD_VALUES (3 * j) 0) (λ _. 0xE0) 0 6 refl k six i))) ∙ first.before (3 * k) m)
-
-  late : (k : ℕ) → 6 ≤ k → 3 * k < 8 + later → BeginsThree (get_or src (3 * k) 0)
-  late k from m =
-      let j = k - 6 in
-      let two : j < 2 = omega (arith, second.within, m) in
-      let there : 8 + (3 * j + 10) ≡ 3 * k = omega arith in
-      three_from (get_or src (3 * k) 0) (bytes (3 * k)).fits
-      (sym (λ i. not (eqb (bit_and (get_or src (there i) 0) (same_below (λ m. get_or LATER_BITS (3 * m + 10) 0) (λ _. 0xF0) 0 2 refl j two i))
-      (same_below (λ m. get_or LATER_VALUES (3 * m + 10) 0) (λ _. 0xE0) 0 2 refl j two i))) ∙ second.before (3 * j + 10) (omega (arith, m)))
-
-  leading : (end / 3 ≤ 8) × ((k : ℕ) → k < end / 3 → BeginsThree (get_or src (3 * k) 0))
-  leading = (
-    omega (arith, ends, first.within, second.within),
-    λ k l. elim ends [
-      | inl w ↦ early k (omega (arith, w, l))
-      | inr w ↦ elim (cases_lt k 6) [ inl b ↦ early k (omega (arith, w, b)) | inr b ↦ late k b (omega (arith, w, l)) ]
-    ],
-  )
-
-pub overflow_add-end : goal.overflow_add-end
-overflow_add-end c =
-    let later = c.run_before-before_later in
-    let last =
-    run c.args.src.now 8 LATER_BITS LATER_VALUES
-    (omega (arith, c.requires.dst_length)) refl refl later.result later.ensures.none_failing later.ensures.first_failing in
-    omega (arith, last.within)
-
-pub are_bytes_below-requires-then-are_bytes_below : goal.are_bytes_below-requires-then-are_bytes_below
-are_bytes_below-requires-then-are_bytes_below c =
-    let first = c.run_before-before in
-    let later = c.run_before-before_later in
-    let count = leading c.args.src.now c.type_inv.src (omega (arith, c.requires.dst_length)) first.result later.result c.if-before-lt16.end
-    first.ensures.none_failing first.ensures.first_failing later.ensures.none_failing later.ensures.first_failing
-    (elim c.if-before-lt16.branch [ then-before-lt16 w ↦ inl w.end-is | else-before-lt16 w ↦ inr (omega (arith, w.if-before-lt16), w.end-is) ]) in
-    omega (arith, count.0, c.requires.dst_length)
-
-pub write_triples-requires-clause-triples : goal.write_triples-requires-clause-triples
-write_triples-requires-clause-triples c =
-    let first = c.run_before-before in
-    let later = c.run_before-before_later in
-    leading c.args.src.now c.type_inv.src (omega (arith, c.requires.dst_length)) first.result later.result c.if-before-lt16.end
-    first.ensures.none_failing first.ensures.first_failing later.ensures.none_failing later.ensures.first_failing
-    (elim c.if-before-lt16.branch [ then-before-lt16 w ↦ inl w.end-is | else-before-lt16 w ↦ inr (omega (arith, w.if-before-lt16), w.end-is) ])
-
-pub write_block-bytes-requires-clause-dst_length : goal.write_block-bytes-requires-clause-dst_length
-write_block-bytes-requires-clause-dst_length c =
-    let first = c.run_before-before in
-    let later = c.run_before-before_later in
-    let count = leading c.args.src.now c.type_inv.src (omega (arith, c.requires.dst_length)) first.result later.result c.if-before-lt16.end
-    first.ensures.none_failing first.ensures.first_failing later.ensures.none_failing later.ensures.first_failing
-    (elim c.if-before-lt16.branch [ then-before-lt16 w ↦ inl w.end-is | else-before-lt16 w ↦ inr (omega (arith, w.if-before-lt16), w.end-is) ]) in
-    omega (arith, count.0, c.requires.dst_length)
-
-pub returns-then-not-are_bytes_below-clause-written : goal.returns-then-not-are_bytes_below-clause-written
-returns-then-not-are_bytes_below-clause-written c =
-    let first = c.run_before-before in
-    let later = c.run_before-before_later in
-    let eight = leading c.args.src.now c.type_inv.src (omega (arith, c.requires.dst_length)) first.result later.result c.if-before-lt16.end
-    first.ensures.none_failing first.ensures.first_failing later.ensures.none_failing later.ensures.first_failing
-    (elim c.if-before-lt16.branch [ then-before-lt16 w ↦ inl w.end-is | else-before-lt16 w ↦ inr (omega (arith, w.if-before-lt16), w.end-is) ]) in
-    let count = c.if-before-lt16.end / 3 in
-    let due = due_block c.args.src.now c.args.dst.now c.write_triples.new.dst (3 * count) count 8 c.requires.text
-    (omega (arith, eight.0)) c.write_triples.ensures in
-    let puts = rw (take_rest c.args.src.now (3 * count)) at c.write_block-bytes.ensures.written in
-    putting_some (putting_more _ _ _ _ _ _ _ _ (omega (arith, eight.0)) (putting_first _ _ _ _ _ c.requires.text due) puts)
+pub returns-then-src-read-ge-FOUR_BYTES-clause-written : goal.returns-then-src-read-ge-FOUR_BYTES-clause-written
+returns-then-src-read-ge-FOUR_BYTES-clause-written c =
+    let count = c.leading_triples-count in
+    let due = due_block c.args.src.now c.args.dst.now c.write_triples.new.dst (3 * count.result) count.result 8 c.requires.text
+    (omega (arith, count.ensures.0, c.requires.dst_length)) c.write_triples.ensures in
+    let puts = rw (take_rest c.args.src.now (3 * count.result)) at c.write_mark_and_character-bytes.ensures.written in
+    putting_some (putting_more _ _ _ _ _ _ _ _ (omega (arith, count.ensures.0, c.requires.dst_length))
+    (putting_first _ _ _ _ _ c.requires.text due) puts)
