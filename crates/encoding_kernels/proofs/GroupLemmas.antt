@@ -4,7 +4,7 @@ use Rattle.std.specs.List.{range_with_len}
 use Rattle.std.specs.Str.{IsUtf8, IsCharBoundary, chars}
 use Rattle.std.specs.Simd.Lanes.{pick_l, put_chunk, mask_l, sel_l, top, zip2}
 use Rattle.std.specs.Int.RustNames.{count_ones}
-use Rattle.std.proofs.lemmas.Bool.{cases_lt, cond-true, cond-false, lt-ltb, le-ltb, ltb-true, and_parts, leb-true, not-false}
+use Rattle.std.proofs.lemmas.Bool.{true≢false, cases_lt, cond-true, cond-false, lt-ltb, le-ltb, le-leb, ltb-true, and_from, and_parts, leb-true, not-true, not-false}
 use borrow.Rule.Slice.PartMut.{put_mid}
 use Rattle.std.proofs.Math.Seq.{take-append-add}
 use Rattle.std.proofs.lemmas.List.{append-nil, drop_all, drop_at, drop-append-le, drop-take, take-take, take_at, take_rest, length-take-le, length-append, length-drop, length-take, get_or-take, get_or-drop, get_or-map, get_or_append_left, get_or-append_right, length-map}
@@ -28,6 +28,11 @@ three_from b l e =
     let same = same_below (λ k. not (eqb (bit_and k 0xF0) 0xE0)) (λ k. not (leb 0xE0 k && ltb k 0xF0)) false 256 refl b l in
     let both = and_parts (leb 0xE0 b) (ltb b 0xF0) (not-false _ (sym same ∙ e)) in
     (leb-true _ _ both.0, ltb-true _ _ both.1)
+
+pub three_none : (b : ℕ) → b < 256 → not (eqb (bit_and b 0xF0) 0xE0) ≡ true → BeginsThree b → ⊥
+three_none b l e three =
+    let same = same_below (λ k. not (eqb (bit_and k 0xF0) 0xE0)) (λ k. not (leb 0xE0 k && ltb k 0xF0)) false 256 refl b l in
+    true≢false (sym (and_from (leb 0xE0 b) (ltb b 0xF0) (le-leb _ _ three.0) (lt-ltb _ _ three.1)) ∙ not-true _ (sym same ∙ e))
 
 -- ---- 24 bytes in two vectors
 -- the index in the text of a lane of both

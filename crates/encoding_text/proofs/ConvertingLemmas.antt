@@ -398,19 +398,24 @@ text_all_read src old new read written d l u =
     omega (arith, w.0, all, d.text.prefix.within)
 
 -- ASCII at the start
+pub converted_start : (src old new : List ℕ) (n : ℕ) → n ≤ length src → IsAscii (take n src) → WritesPrefix old new n (take n src)
+    → ConvertsSome encode_utf16 src old new n n
+converted_start src old new n within ascii w =
+    let text = ascii_text (take n src) ascii in
+    record {
+      scalars = text.0.0;
+      are_scalars = text.0.1.0;
+      within = within;
+      spelled = text.0.1.1;
+      writes = WritesPrefix-same _ _ _ _ _ _ w refl (sym text.1 ∙ ap (flat_map encode_utf16) (sym (chars_from_encodes text.0.0 _ text.0 text.0.1.1)));
+    }
+
+-- the same, of as many bytes as may fit
 pub converted_first_ascii : (src old new : List ℕ) (m n : ℕ) → n ≤ length (take m src) → IsAscii (take n (take m src))
     → WritesPrefix old new n (take n (take m src)) → ConvertsSome encode_utf16 src old new n n
 converted_first_ascii src old new m n within ascii w =
     let same : take n (take m src) ≡ take n src = take-take n m src (omega (arith, within, length-take m src)) in
-    let text = ascii_text (take n src) (subst IsAscii same ascii) in
-    record {
-      scalars = text.0.0;
-      are_scalars = text.0.1.0;
-      within = omega (arith, within, length-take m src);
-      spelled = text.0.1.1;
-      writes = WritesPrefix-same _ _ _ _ _ _ w refl (same ∙ (sym text.1
-          ∙ ap (flat_map encode_utf16) (sym (chars_from_encodes text.0.0 _ text.0 text.0.1.1))));
-    }
+    converted_start src old new n (omega (arith, within, length-take m src)) (subst IsAscii same ascii) (subst (λ xs. WritesPrefix old new n xs) same w)
 
 -- a text whose ASCII prefix is written
 pub putting_ascii : (src old new : List ℕ) (n : ℕ) → IsUtf8 src → IsLongestPrefix IsAscii src n → WritesPrefix old new n (take n src)

@@ -4,7 +4,7 @@ ghost use Rattle.std.specs.Prelude.{◌≡◌, ◌+◌, ◌<◌, ◌≤◌, ◌�
 ghost use Rattle.encoding_kernels.specs.Following.{IsZeroTo};
 ghost use Rattle.encoding_kernels.specs.Scans.{AllBelow, IsRunBelow, BelowUpTo};
 
-use crate::simd::scan::{AllPass, LanePredicate, Test, find, reach, run, skip};
+use crate::simd::scan::{AllPass, LanePredicate, Test, find, pass_short, reach, run, skip};
 use crate::simd::width::{HALF_UNIT_BLOCK, STRIDE, UNIT_STRIDE};
 use std::simd::Simd;
 use std::simd::prelude::*;
@@ -109,7 +109,8 @@ pub fn skip_units_below(units: &[u16], bound: u16) -> usize
 {
     let test = UnitsBelow { units, bound };
     match units.len() {
-        ..UNIT_STRIDE => skip::<1, 1, _>(&test, 0, units.len()),
+        ..UNIT_STRIDE if pass_short::<UNIT_STRIDE, _>(&test, units.len()) => units.len(),
+        ..UNIT_STRIDE => 0,
         ..HALF_UNIT_BLOCK => reach::<UNIT_STRIDE, UNIT_STRIDE, _>(&test, 0, units.len()),
         _ => reach::<STRIDE, HALF_UNIT_BLOCK, _>(&test, 0, units.len()),
     }

@@ -66,8 +66,9 @@ fn begins_triples(src: &[u8]) -> bool
 #[inline(always)]
 fn leading_triples(src: &[u8]) -> usize
     requires { 24 ≤ length src.now }
-    ensures { (result ≤ 8)
-        × ((k : ℕ) → k < result → BeginsThree (slice_index src.now (3 * k))) }
+    ensures within { result ≤ 8 }
+    ensures triples { (k : ℕ) → k < result → BeginsThree (slice_index src.now (3 * k)) }
+    ensures stops { result < 8 → BeginsThree (slice_index src.now (3 * result)) → ⊥ }
 {
     let first = u8x16::from_slice(src) & u8x16::from_array(LEAD_BITS);
     let later = u8x16::from_slice(&src[8..]) & u8x16::from_array(LATER_BITS);

@@ -1,16 +1,18 @@
 //! From UTF-8 to UTF-16, whole buffers. A conversion leaves the rest of `dst` unchanged.
 
-ghost use Rattle.std.specs.Prelude.{◌≡◌, ℕ, ◌<◌, ◌≤◌, ◌↔◌, List, length, IfSome, IsSome};
+ghost use Rattle.std.specs.Prelude.{◌≡◌, ℕ, ◌+◌, ◌<◌, ◌≤◌, ◌↔◌, List, length, IfSome, IsSome};
 ghost use Rattle.std.specs.List.{flat_map};
 ghost use Rattle.std.specs.Char.Escape.{encode_utf16};
-ghost use Rattle.std.specs.Str.{IsUtf8, chars};
+ghost use Rattle.std.specs.Str.{IsAscii, IsUtf8, chars};
 ghost use Rattle.encoding_definitions.specs.Parts.{Part, ArePartsOf, BeginsWithNoCharacter, lossy_utf16};
 ghost use Rattle.encoding_definitions.specs.Prefixes.{WritesPrefix};
 ghost use Rattle.encoding_definitions.specs.Converting.{WritesText};
+ghost use Rattle.encoding_kernels.specs.Scans.{AllBelow};
+ghost use Rattle.encoding_text.specs.Steps.{ConvertsSome};
 
-use crate::ascii::prefixes::unpack_ascii_prefix;
+use crate::ascii::prefixes::{unpack_ascii_prefix, unpack_blocks};
 use crate::decoder::replacing::malformed_length;
-use crate::utf_8::{convert_text, convert_utf8_to_utf16_up_to_invalid};
+use crate::utf_8::{convert_beyond_ascii, convert_text, convert_utf8_to_utf16_up_to_invalid};
 use encoding_kernels::lengths::{BLOCK_OF_TEXT, SHORT};
 use encoding_kernels::simd::copy::write_short;
 use encoding_kernels::simd::scan::BytesBelow;
@@ -39,6 +41,26 @@ fn convert_malformed(src: &[u8], dst: &mut [u16]) -> usize
     written
 }
 
+/// Converts bytes that aren't all ASCII as `convert_utf8_to_utf16` does. If they are more than 64, the first `blocks` are ASCII and
+/// converted. Out of line, so that ASCII needs no saved registers.
+#[inline(never)]
+fn convert_with_replacement(src: &[u8], dst: &mut [u16], blocks: usize) -> usize
+    requires dst_length { length src.now < length dst.old }
+    requires within { blocks < length src.now }
+    requires short { length src.now ≤ 64 → (blocks ≡ 0) × (IsAscii src.now → ⊥) }
+    requires start { ConvertsSome encode_utf16 src.now dst.old dst.old blocks blocks }
+    requires stops { blocks + 64 ≤ length src.now → AllBelow 0x80 src.now blocks 64 → ⊥ }
+    ensures converted { (parts : List Part) × ArePartsOf src.now parts × WritesPrefix dst.old dst.new
+        result (lossy_utf16 parts) }
+    ensures after { blocks ≤ result }
+{
+    let (read, written) = convert_beyond_ascii(src, dst, blocks);
+    if read == src.len() {
+        return written;
+    }
+    written + convert_malformed(&src[read..], &mut dst[written..])
+}
+
 /// Converts bytes to UTF-16, with U+FFFD for each malformed sequence, and returns how many code units it wrote.
 /// Encoding Standard, UTF-8 decode without BOM.
 ///
@@ -48,11 +70,21 @@ pub fn convert_utf8_to_utf16(src: &[u8], dst: &mut [u16]) -> usize
     ensures { (parts : List Part) × ArePartsOf src.now parts × WritesPrefix dst.old dst.new result
         (lossy_utf16 parts) }
 {
-    let (read, written) = convert_utf8_to_utf16_up_to_invalid(src, dst);
-    if read == src.len() {
-        return written;
+    if src.len() > SHORT {
+        let blocks = unpack_blocks(src, dst);
+        if blocks == src.len() {
+            return blocks;
+        }
+        return convert_with_replacement(src, dst, blocks);
     }
-    written + convert_malformed(&src[read..], &mut dst[written..])
+    let ascii = BytesBelow {
+        bytes: src,
+        bound: ASCII_END,
+    };
+    if write_short::<SHORT, _, _>(&ascii, src.len(), dst) {
+        return src.len();
+    }
+    convert_with_replacement(src, dst, 0)
 }
 
 /// Converts a text of more than 64 bytes to UTF-16, and returns how many code units it wrote. Out of line, so that a short text

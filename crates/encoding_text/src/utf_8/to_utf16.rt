@@ -209,6 +209,24 @@ fn convert_after_blocks(src: &[u8], dst: &mut [u16], blocks: usize) -> (usize, u
     convert_turns(src, dst, ascii)
 }
 
+/// Converts bytes that aren't all ASCII as `convert_utf8_to_utf16_up_to_invalid` does, if `dst` is at least as long. If they are more
+/// than 64, the first `blocks` are ASCII and converted.
+#[inline(always)]
+pub(crate) fn convert_beyond_ascii(src: &[u8], dst: &mut [u16], blocks: usize) -> (usize, usize)
+    requires dst_length { length src.now ≤ length dst.old }
+    requires within { blocks < length src.now }
+    requires short { length src.now ≤ 64 → (blocks ≡ 0) × (IsAscii src.now → ⊥) }
+    requires start { ConvertsSome encode_utf16 src.now dst.old dst.old blocks blocks }
+    requires stops { blocks + 64 ≤ length src.now → AllBelow 0x80 src.now blocks 64 → ⊥ }
+    ensures converts { ConvertsMaximal encode_utf16 src.now dst.old dst.new result.0 result.1 }
+    ensures after { blocks ≤ result.1 }
+{
+    match src.len() {
+        ..=SHORT => convert_short_beyond_ascii(src, dst),
+        _ => convert_after_blocks(src, dst, blocks),
+    }
+}
+
 /// Converts UTF-8 to UTF-16 as `convert_utf8_to_utf16_up_to_invalid` does: blocks of ASCII, and what follows them. Out of line, so
 /// that a short text needs no more registers than it uses. Nothing follows the call at its end, so ASCII needs none saved.
 #[inline(never)]

@@ -1,47 +1,37 @@
-use Rattle.std.proofs.Common.{[], arith, length, ap}
+use Rattle.std.proofs.Common.{arith, length}
 use Rattle.std.specs.Char.Escape.{encode_utf16}
-use Rattle.std.proofs.lemmas.List.{drop_all, length-drop, take_rest}
-use Rattle.encoding_text.proofs.ConvertingLemmas.{converts_prefix, none_after}
-use Rattle.encoding_text.proofs.RepairingLemmas.{replaced_all, replaced_first, replaced_then, characters_short}
+use Rattle.std.proofs.lemmas.List.{drop_all, take_all}
+use Rattle.encoding_definitions.proofs.PrefixesLemmas.{WritesPrefix_over}
+use Rattle.encoding_kernels.proofs.ScanLemmas.{ascii_below}
+use Rattle.encoding_text.proofs.ConvertingLemmas.{ascii_written, converted_again, converted_start, converts_all, converts_prefix, converts_valid, of_whole_prefix}
+use Rattle.encoding_text.proofs.Latin1ConversionLemmas.{ascii_taken}
+use Rattle.encoding_text.proofs.RepairingLemmas.{replaced_all, replaced_first}
+use Rattle.encoding_text.proofs.WholePrefixesLemmas.{whole_text}
 use Rattle.encoding_text.proofs.mem.to_utf16.convert_utf8_to_utf16.Goals as goal
 
-pub returns-then-read-src : goal.returns-then-read-src
-returns-then-read-src c =
-    let d = converts_prefix encode_utf16 _ _ _ _ _ c.convert_utf8_to_utf16_up_to_invalid-read.ensures in
-    replaced_all _ _ _ _ _ (replaced_first _ _ _ _ _ d) (drop_all _ c.args.src.now (omega (arith, c.if-read-src.true)))
+pub returns-then-blocks-src : goal.returns-then-blocks-src
+returns-then-blocks-src c =
+    let blocks = c.unpack_blocks-blocks.ensures in
+    let start = converted_start _ _ _ _ blocks.within (ascii_taken _ _ blocks.ascii) blocks.copied in
+    let all = converts_prefix encode_utf16 _ _ _ _ _ (converts_all encode_utf16 _ _ _ _ _ (omega arith) start) in
+    replaced_all _ _ _ _ _ (replaced_first _ _ _ _ _ all) (drop_all _ c.args.src.now (omega arith))
 
-pub slice_bounds-convert_malformed-count : goal.slice_bounds-convert_malformed-count
-slice_bounds-convert_malformed-count c = (converts_prefix encode_utf16 _ _ _ _ _ c.convert_utf8_to_utf16_up_to_invalid-read.ensures).within
+pub convert_with_replacement-requires-clause-start : goal.convert_with_replacement-requires-clause-start
+convert_with_replacement-requires-clause-start c =
+    let blocks = c.unpack_blocks-blocks.ensures in
+    let start = converted_start _ _ _ _ blocks.within (ascii_taken _ _ blocks.ascii) blocks.copied in
+    converted_again encode_utf16 _ _ _ _ _ start
 
-pub slice_bounds-convert_malformed-start : goal.slice_bounds-convert_malformed-start
-slice_bounds-convert_malformed-start c =
-    let d = converts_prefix encode_utf16 _ _ _ _ _ c.convert_utf8_to_utf16_up_to_invalid-read.ensures in
-    let short = characters_short _ _ _ _ _ d in
-    omega (arith, d.within, short.0, short.1, c.requires.dst_length)
+pub returns-then-src-gt-SHORT : goal.returns-then-src-gt-SHORT
+returns-then-src-gt-SHORT c =
+    let blocks = c.unpack_blocks-blocks.ensures in
+    let rest = c.convert_with_replacement.ensures in
+    (rest.converted.0, rest.converted.1, WritesPrefix_over _ _ _ _ _ _ _ blocks.copied rest.converted.2 rest.after)
 
-pub convert_malformed-requires : goal.convert_malformed-requires
-convert_malformed-requires c =
+pub returns-then-write_short : goal.returns-then-write_short
+returns-then-write_short c =
     let src = c.args.src.now in
-    let call = c.convert_utf8_to_utf16_up_to_invalid-read in
-    let d = converts_prefix encode_utf16 _ _ _ _ _ call.ensures in
-    let short = characters_short _ _ _ _ _ d in
-    record {
-      no_character = rw (take_rest src call.result.0) (none_after _ _ _ _ _ call.ensures (omega (arith, c.requires.dst_length)));
-      dst_length = omega (
-        arith,
-        d.within,
-        short.0,
-        short.1,
-        c.requires.dst_length,
-        ap length (take_rest src call.result.0),
-        ap length (take_rest call.new.dst call.result.1),
-        length-drop call.result.0 src,
-        length-drop call.result.1 call.new.dst,
-      );
-    }
-
-pub returns : goal.returns
-returns c =
-    let d = converts_prefix encode_utf16 _ _ _ _ _ c.convert_utf8_to_utf16_up_to_invalid-read.ensures in
-    let rest = rw (take_rest c.args.src.now c.convert_utf8_to_utf16_up_to_invalid-read.result.0) at c.convert_malformed.ensures in
-    replaced_then _ _ _ _ _ _ _ rest.0 [] (replaced_first _ _ _ _ _ d) rest.1 rest.2
+    let ascii = ascii_below src (c.write_short.ensures.pass.0 c.if-write_short.true) in
+    let units = ascii_written _ _ _ ascii (c.write_short.ensures.written c.if-write_short.true) in
+    let all = converts_valid encode_utf16 _ _ _ _ _ (whole_text src ascii) (of_whole_prefix _ _ _ _ _ (take_all (length src) src (omega arith)) units) in
+    replaced_all _ _ _ _ _ (replaced_first _ _ _ _ _ (converts_prefix encode_utf16 _ _ _ _ _ all)) (drop_all _ src (omega arith))
