@@ -109,19 +109,19 @@ pub extern "C" fn encoding_text_repair_slice(src: &[u8], dst: &mut [u8]) -> Enco
     ensures invalid_argument { length dst.old < 3 * length src.now
         → (result.written ≡ usize.MAX) × (result.replaced ≡ 0) × (dst.new ≡ dst.old) }
 {
-    // Before the test, since one store clears both fields then. With two, 16 more bytes of code precede the loop. For x86-64-v3,
-    // more of its jumps then end at a multiple of 32 bytes, where they are slow.
-    let mut buffer = Buffer {
-        room: dst,
-        written: 0,
-        failed: false,
-    };
-    if buffer.room.len() / 3 < src.len() {
+    if dst.len() / 3 < src.len() {
         return EncodingRepairResult {
             written: INVALID_ARGUMENT,
             replaced: 0,
         };
     }
+    // After the test: before it, one store would clear both fields, and 16 fewer bytes of code would precede the loop. More of its jumps
+    // would then end at a multiple of 32 bytes, where they are slow.
+    let mut buffer = Buffer {
+        room: dst,
+        written: 0,
+        failed: false,
+    };
     match repair_slice(src, &mut buffer) {
         Ok(replaced) => EncodingRepairResult {
             written: buffer.written,

@@ -50,7 +50,8 @@ fn convert_with_replacement(src: &[u8], dst: &mut [u16], blocks: usize) -> usize
     requires short { length src.now ≤ 64 → (blocks ≡ 0) × (IsAscii src.now → ⊥) }
     requires start { ConvertsSome encode_utf16 src.now dst.old dst.old blocks blocks }
     requires stops { blocks + 64 ≤ length src.now → AllBelow 0x80 src.now blocks 64 → ⊥ }
-    ensures converted { (parts : List Part) × ArePartsOf src.now parts × WritesPrefix dst.old dst.new
+    ensures converted { (parts : List Part) × ArePartsOf src.now parts
+        × WritesPrefix dst.old dst.new
         result (lossy_utf16 parts) }
     ensures after { blocks ≤ result }
 {

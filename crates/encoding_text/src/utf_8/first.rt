@@ -34,12 +34,14 @@ impl First {
         ensures several { IfNone result (IsIncomplete (take 1 bytes.now)) }
     {
         let lead = bytes[0];
-        if bytes.len() > 1 {
-            // one test, since on random bytes a branch for each of the two costs more
-            let mask = u8::from(begins_several(lead)) * 0xC0;
-            if bytes[1] & mask == 0x80 {
-                return None;
-            }
+        // a byte that ends the bytes is paired with itself, so that no branch depends on the length: it goes on with no byte
+        let second = (bytes.len() - 1).min(1);
+        // one test, since on random bytes a branch for each of the two costs more
+        let mask = u8::from(begins_several(lead)) * 0xC0;
+        if bytes[second] & mask == 0x80 {
+            return None;
+        }
+        if second == 1 {
             return Some(First::Malformed(1));
         }
         if begins_several(lead) {

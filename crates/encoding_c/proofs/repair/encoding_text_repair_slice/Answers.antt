@@ -19,7 +19,7 @@ unreachable-requires c =
       short,
       full,
       room,
-      c.if-buffer-src.false,
+      c.if-dst-src.false,
       out,
       length-take w.written w.room.now,
       length-append

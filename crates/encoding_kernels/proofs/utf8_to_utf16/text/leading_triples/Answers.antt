@@ -33,11 +33,11 @@ fails b bits value place l as_bits as_value as_place e = elim (cases_Bool (eqb b
   | inl t ↦ (
     sym (as_place ∙ ap (λ c. cond c (3 * (place / 3)) place) t),
     three_none b l
-    ((λ i. not (eqb (bit_and b (sym (eqb-true _ _ t) i)) (sym (as_value ∙ ap (λ c. cond c 0xE0 0) t) i))) ∙ e),
+        ((λ i. not (eqb (bit_and b (sym (eqb-true _ _ t) i)) (sym (as_value ∙ ap (λ c. cond c 0xE0 0) t) i))) ∙ e),
   )
   | inr f ↦
       let none = (λ i. not (eqb (bit_and b (sym (as_bits ∙ ap (λ c. cond c 0xF0 0) f) i)) (sym (as_value ∙ ap (λ c. cond c 0xE0 0) f) i)))
-          ∙ e in
+      ∙ e in
       absurd (true≢false (sym none ∙ same_below (λ k. not (eqb (bit_and k 0) 0)) (λ _. false) false 256 refl b l))
 ]
 
