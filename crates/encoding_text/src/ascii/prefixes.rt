@@ -10,12 +10,15 @@ ghost use Rattle.encoding_kernels.specs.Scans.{AllBelow, BelowUpTo, IsRunBelow};
 
 use encoding_kernels::lengths::{BLOCK_OF_TEXT, STRIDE_OF_TEXT};
 use encoding_kernels::simd::copy::{
-    copy, copy_first, copy_run_of_block, unpack, unpack_block, unpack_first, write_short,
+    copy, copy_first, copy_run_of_block, pack, unpack, unpack_block, unpack_first, write_short,
 };
 use encoding_kernels::simd::scan::{
     BytesBelow, are_bytes_below, pass_short, prefix_after_stride, prefix_len_below, run_len_below,
 };
-use encoding_kernels::simd::width::{ASCII_END, BLOCK, FOUR, FOUR_BLOCKS, STRIDE, TWO_BLOCKS};
+use encoding_kernels::simd::units::are_units_below;
+use encoding_kernels::simd::width::{
+    ASCII_END, BASIC_LATIN_END, BLOCK, FOUR, FOUR_BLOCKS, STRIDE, TWO_BLOCKS, UNIT_BLOCK,
+};
 
 /// Returns whether at most 128 bytes are ASCII.
 #[inline(always)]
@@ -240,6 +243,31 @@ pub(crate) fn unpack_blocks(src: &[u8], dst: &mut [u16]) -> usize
     }
     if at >= last && are_bytes_below::<BLOCK>(src, last, ASCII_END) {
         unpack::<BLOCK>(src, last, dst, last);
+        return src.len();
+    }
+    at
+}
+
+/// Copies blocks of 64 ASCII code units from the start, each unit as a byte, and returns how many units these are: all if all are ASCII,
+/// since the last block may overlap the one before it. Inline, as `unpack_blocks` is.
+#[inline(always)]
+pub(crate) fn pack_blocks(src: &[u16], dst: &mut [u8]) -> usize
+    requires dst_length { length src.now ≤ length dst.old }
+    ensures within { result ≤ length src.now }
+    ensures ascii { BelowUpTo 0x80 src.now result }
+    ensures copied { WritesPrefix dst.old dst.new result (take result src.now) }
+{
+    if src.len() < UNIT_BLOCK {
+        return 0;
+    }
+    let last = src.len() - UNIT_BLOCK;
+    let mut at = 0;
+    while at < last && are_units_below::<UNIT_BLOCK>(src, at, BASIC_LATIN_END) {
+        pack::<UNIT_BLOCK>(src, at, dst, at);
+        at += UNIT_BLOCK;
+    }
+    if at >= last && are_units_below::<UNIT_BLOCK>(src, last, BASIC_LATIN_END) {
+        pack::<UNIT_BLOCK>(src, last, dst, last);
         return src.len();
     }
     at

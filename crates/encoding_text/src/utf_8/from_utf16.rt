@@ -1,11 +1,12 @@
 //! UTF-16 to UTF-8, into a destination of any length. A conversion leaves the rest of `dst` unchanged.
-ghost use Rattle.std.specs.Prelude.{◌≡◌, ◌+◌, ◌<◌, ◌≤◌, ◌⊎◌, ◌-◌, ◌↔◌, length, take, slice_index, IsTrue, IsFalse, ◌*◌, IsUtf8, encode_utf8_all};
+ghost use Rattle.std.specs.Prelude.{◌≡◌, ◌+◌, ◌<◌, ◌≤◌, ◌⊎◌, ◌-◌, ◌↔◌, length, take, slice_index, IsTrue, ◌*◌, IsUtf8, encode_utf8_all};
 ghost use Rattle.std.specs.Char.Utf16.{utf16_lossy_chars};
 ghost use Rattle.std.specs.Str.{IsAscii};
 ghost use Rattle.encoding_definitions.specs.Prefixes.{WritesPrefix};
 ghost use Rattle.encoding_definitions.specs.Utf16.{IsHighSurrogate, IsLowSurrogate, IsUtf8OfPrefix, IsUtf8OfLongestPrefix, IsUtf8OfUnits};
 
 use crate::ascii;
+use crate::ascii::prefixes::pack_blocks;
 use encoding_kernels::scalar::{
     is_high_surrogate, is_low_surrogate, utf8_length, utf16_length, write_scalar,
 };
@@ -46,23 +47,28 @@ fn copy_ascii(src: &[u16], dst: &mut [u8]) -> usize
     }
 }
 
-/// Copies at most 64 code units if they are ASCII and leave three bytes of `dst` free. Returns whether it did.
+/// Copies ASCII code units from the start, and returns how many, if all of `src` as ASCII would leave three bytes of `dst` free: all or
+/// none of at most 64, and of more the blocks that are ASCII.
 #[inline(always)]
-fn copy_short_ascii(src: &[u16], dst: &mut [u8]) -> bool
-    ensures prefix { IsTrue result → IsUtf8OfPrefix src.now (length src.now)
-        (take (length src.now) dst.new) }
-    ensures copied { IsTrue result → WritesPrefix dst.old dst.new (length src.now)
-        (take (length src.now) dst.new) }
-    ensures unchanged { IsFalse result → dst.new ≡ dst.old }
+fn copy_first_ascii(src: &[u16], dst: &mut [u8]) -> usize
+    ensures within { result ≤ length src.now }
+    ensures prefix { IsUtf8OfPrefix src.now result (take result dst.new) }
+    ensures copied { WritesPrefix dst.old dst.new result (take result dst.new) }
 {
+    if !begins_with_ascii(src) || src.len() > dst.len().saturating_sub(LONGEST - 1) {
+        return 0;
+    }
+    if src.len() > UNIT_BLOCK {
+        return pack_blocks(src, dst);
+    }
     let ascii = UnitsBelow {
         units: src,
         bound: BASIC_LATIN_END,
     };
-    begins_with_ascii(src)
-        && src.len() <= UNIT_BLOCK
-        && src.len() <= dst.len().saturating_sub(LONGEST - 1)
-        && write_short::<UNIT_BLOCK, _, _>(&ascii, src.len(), dst)
+    if write_short::<UNIT_BLOCK, _, _>(&ascii, src.len(), dst) {
+        return src.len();
+    }
+    0
 }
 
 /// Returns whether a surrogate pair is at index `at`.
@@ -121,23 +127,22 @@ fn scalar_budget(left: usize, others: usize) -> usize
     }
 }
 
-/// Converts the first characters of `src` from UTF-16 to UTF-8, while at least four bytes of `dst` are free. Returns
-/// how many code units it read and how many bytes it wrote. An unpaired surrogate becomes U+FFFD (Unicode Standard,
-/// section 3.9, UTF-16).
-///
-/// Either all of `src` is read, or at most three bytes are free, which `convert_utf16_to_utf8_partial_tail` then fills.
-pub fn convert_utf16_to_utf8_partial_inner(src: &[u16], dst: &mut [u8]) -> (usize, usize)
+/// Converts code units as `convert_utf16_to_utf8_partial_inner` does, except the first `ascii`, which are converted. Out of line, so that
+/// ASCII needs no saved registers.
+#[inline(never)]
+fn convert_after_ascii(src: &[u16], dst: &mut [u8], ascii: usize) -> (usize, usize)
+    requires within { ascii ≤ length src.now }
+    requires start { IsUtf8OfPrefix src.now ascii (take ascii dst.old) }
+    requires written { WritesPrefix dst.old dst.old ascii (take ascii dst.old) }
     ensures prefix { IsUtf8OfPrefix src.now result.0 (take result.1 dst.new) }
     ensures unchanged_after { WritesPrefix dst.old dst.new result.1 (take result.1 dst.new) }
     ensures within { result.0 ≤ length src.now }
     ensures filled { (result.0 ≡ length src.now) ⊎ (length dst.old < result.1 + 4) }
+    ensures after { ascii ≤ result.1 }
 {
-    if copy_short_ascii(src, dst) {
-        return (src.len(), src.len());
-    }
-    let mut read = 0;
-    let mut written = 0;
-    let mut singles = scalar_budget(src.len(), 0);
+    let mut read = ascii;
+    let mut written = ascii;
+    let mut singles = scalar_budget(src.len() - read, 0);
     let end = dst.len().saturating_sub(LONGEST - 1);
     while read < src.len() && written < end {
         if singles == 0 {
@@ -158,6 +163,24 @@ pub fn convert_utf16_to_utf8_partial_inner(src: &[u16], dst: &mut [u8]) -> (usiz
         }
     }
     (read, written)
+}
+
+/// Converts the first characters of `src` from UTF-16 to UTF-8, while at least four bytes of `dst` are free. Returns
+/// how many code units it read and how many bytes it wrote. An unpaired surrogate becomes U+FFFD (Unicode Standard,
+/// section 3.9, UTF-16).
+///
+/// Either all of `src` is read, or at most three bytes are free, which `convert_utf16_to_utf8_partial_tail` then fills.
+pub fn convert_utf16_to_utf8_partial_inner(src: &[u16], dst: &mut [u8]) -> (usize, usize)
+    ensures prefix { IsUtf8OfPrefix src.now result.0 (take result.1 dst.new) }
+    ensures unchanged_after { WritesPrefix dst.old dst.new result.1 (take result.1 dst.new) }
+    ensures within { result.0 ≤ length src.now }
+    ensures filled { (result.0 ≡ length src.now) ⊎ (length dst.old < result.1 + 4) }
+{
+    let ascii = copy_first_ascii(src, dst);
+    if ascii == src.len() {
+        return (ascii, ascii);
+    }
+    convert_after_ascii(src, dst, ascii)
 }
 
 /// Converts the first characters of `src` from UTF-16 to UTF-8, as many as fit into the at most three bytes of `dst`.

@@ -8,14 +8,14 @@ use Rattle.encoding_text.proofs.utf_8.first.First.of_two.Goals as goal
 pub returns-then-bytes-second-clause-several : goal.returns-then-bytes-second-clause-several
 returns-then-bytes-second-clause-several c =
     let both = masked (IsIncomplete (slice_index c.args.bytes.now 0 ∷ [])) c.begins_several.result (slice_index c.args.bytes.now c.min-second.result)
-        (c.type_inv.bytes c.min-second.result).fits
+    (c.type_inv.bytes c.min-second.result).fits
     c.begins_several.ensures in
     begins_before c.args.bytes.now c.requires.not_empty (both.0 (rw c.from-mask.ensures at c.if-bytes-second.true)).0
 
 pub returns-then-second-eq1-clause-shown : goal.returns-then-second-eq1-clause-shown
 returns-then-second-eq1-clause-shown c =
     let both = masked (IsIncomplete (slice_index c.args.bytes.now 0 ∷ [])) c.begins_several.result (slice_index c.args.bytes.now c.min-second.result)
-        (c.type_inv.bytes c.min-second.result).fits
+    (c.type_inv.bytes c.min-second.result).fits
     c.begins_several.ensures in
     let one : 1 ≡ c.min-second.result = omega (arith, c.if-second-eq1.true) in
     shows_malformed c.args.bytes.now 1 (omega arith) (omega arith) (λ last. unpaired c.args.bytes.now c.requires.lead last (omega arith)
@@ -24,7 +24,7 @@ returns-then-second-eq1-clause-shown c =
 pub returns-then-second-eq1-clause-no_character : goal.returns-then-second-eq1-clause-no_character
 returns-then-second-eq1-clause-no_character c =
     let both = masked (IsIncomplete (slice_index c.args.bytes.now 0 ∷ [])) c.begins_several.result (slice_index c.args.bytes.now c.min-second.result)
-        (c.type_inv.bytes c.min-second.result).fits
+    (c.type_inv.bytes c.min-second.result).fits
     c.begins_several.ensures in
     let one : 1 ≡ c.min-second.result = omega (arith, c.if-second-eq1.true) in
     (shows_malformed c.args.bytes.now 1 (omega arith) (omega arith) (λ last. unpaired c.args.bytes.now c.requires.lead last (omega arith)
