@@ -6,7 +6,8 @@ ghost use Rattle.std.specs.Int.{IsInRange};
 ghost use Rattle.encoding_definitions.specs.Latin1.{IsLatin1, IsUtf8Latin1};
 ghost use Rattle.encoding_definitions.specs.Bidi.{IsRightToLeft, IsRightToLeftUnit, IsBidiUnits, IsBidiText, IsBidiBytes};
 ghost use Rattle.encoding_text.specs.Classes.{Classifies};
-ghost use Rattle.encoding_kernels.specs.RightToLeft.{rtl_second_end, rtl_mark_lead, RtlAt, NoRtlIn};
+ghost use Rattle.encoding_kernels.specs.RightToLeft.{rtl_second_end, rtl_mark_lead, RtlAt, NoRtlIn, NoneRightToLeft};
+ghost use Rattle.encoding_kernels.specs.Scans.{BelowUpTo};
 
 use super::checks::{LATIN1_END, str_latin1_up_to, utf8_latin1_up_to};
 use crate::ascii::prefixes::ascii_valid_up_to_by_length;
@@ -171,14 +172,41 @@ pub fn is_utf8_bidi(buffer: &[u8]) -> bool
     }
 }
 
+/// Skips code units below the first right-to-left one, as `skip_units_below` does. Of fewer than eight, other scripts' text seldom
+/// begins with one, and then no vector is tested.
+#[inline(always)]
+fn skip_low_units(units: &[u16]) -> usize
+    ensures within { result ≤ length units.now }
+    ensures below { BelowUpTo FIRST_UNIT units.now result }
+{
+    if units.len() < UNIT_STRIDE && (units.is_empty() || units[0] >= FIRST_UNIT) {
+        return 0;
+    }
+    skip_units_below(units, FIRST_UNIT)
+}
+
+/// Skips code units from `from` on as `skip_clear_units` does, but none of fewer than eight: for these no vector is tested there, and
+/// the call would cost more than their tests.
+#[inline(always)]
+fn skip_by_vectors(units: &[u16], from: usize) -> usize
+    requires { from ≤ length units.now }
+    ensures within { (from ≤ result) × (result ≤ length units.now) }
+    ensures no_rtl { NoneRightToLeft units.now from result }
+{
+    if units.len() < UNIT_STRIDE {
+        return from;
+    }
+    skip_clear_units(units, from)
+}
+
 /// Returns whether a character of the UTF-16 code units is right-to-left, or an unpaired high surrogate may be half of
 /// one.
 pub fn is_utf16_bidi(buffer: &[u16]) -> bool
     ensures { IsTrue result ↔ IsBidiUnits buffer.now }
 {
-    let mut at = skip_units_below(buffer, FIRST_UNIT);
+    let mut at = skip_low_units(buffer);
     while at < buffer.len() {
-        let from = skip_clear_units(buffer, at);
+        let from = skip_by_vectors(buffer, at);
         at = from + UNIT_STRIDE.min(buffer.len() - from);
         for i in from..at {
             if is_utf16_code_unit_bidi(buffer[i]) {

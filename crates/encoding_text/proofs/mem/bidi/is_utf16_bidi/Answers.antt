@@ -5,7 +5,7 @@ use Rattle.encoding_kernels.proofs.BidiLemmas.{units_joined, unit_none}
 use Rattle.encoding_text.proofs.mem.bidi.is_utf16_bidi.Goals as goal
 
 pub loop-i-init : goal.loop-i-init
-loop-i-init c = units_joined c.args.buffer.now 0 c.loop-at.at c.loop-at.at _ c.loop-at.invariant.none c.skip_clear_units-from.ensures.no_rtl (omega arith)
+loop-i-init c = units_joined c.args.buffer.now 0 c.loop-at.at c.loop-at.at _ c.loop-at.invariant.none c.skip_by_vectors-from.ensures.no_rtl (omega arith)
 
 pub returns-then-is_utf16_code_unit_bidi : goal.returns-then-is_utf16_code_unit_bidi
 returns-then-is_utf16_code_unit_bidi c =
@@ -27,7 +27,7 @@ loop-i-preserved c =
 
 pub loop-at-preserved : goal.loop-at-preserved
 loop-at-preserved c =
-    let to = c.skip_clear_units-from.result + c.min.result in
+    let to = c.skip_by_vectors-from.result + c.min.result in
     record {
       within = omega (arith, c.min.ensures);
       none = subst (NoneRightToLeft c.args.buffer.now 0) {x = c.loop-i.i} {y = to} (omega arith) c.loop-i.invariant;
