@@ -2,7 +2,9 @@
 //! malformed sequence. The laws say more of such calls. Encoding Standard, "decode".
 #![tactic(auto)]
 
+mod marked_text;
 mod streams;
+mod whole_streams;
 
 ghost use Rattle.std.specs.Prelude.{◌<◌, [], encode_utf8, IfOk};
 ghost use Rattle.encoding_streams.specs.Decoders.{YieldText};
@@ -12,8 +14,10 @@ ghost use Rattle.decoder_example.specs.Streams.{AppendsText};
 
 use encoding_streams::decoder::Decoder;
 use encoding_streams::encoding::Encoding;
+pub use marked_text::read_marked_text;
 use std::alloc::{AllocError, Global};
 pub use streams::{law_incomplete_stays, law_next_stream, law_whole_text, law_yielded_stays};
+pub use whole_streams::{law_same_calls, law_text_of_utf16, law_whole_stream, law_whole_utf16};
 
 /// The text of a stream, in UTF-8.
 #[derive(Drop)]

@@ -14,7 +14,8 @@ use Rattle.encoding_streams.specs.declared.encoding.Encoding.{Encoding}
 use Rattle.encoding_streams.specs.declared.decoder.inner.Inner.{Inner}
 use Rattle.encoding_streams.specs.declared.decoder.inner.Inner.TheVariants.{OfUtf8, OfUtf16}
 use Rattle.encoding_streams.specs.Decoders.{DecoderState, IsReportingCall, EndsReporting, IsFull, FittingBeginsIn, YieldParts, SufficesReporting, SufficesBetweenReports, decoding}
-use Rattle.encoding_streams.specs.DecoderSteps.{reported_with, state_of}
+use Rattle.encoding_streams.specs.DecoderSteps.{state_of}
+use Rattle.encoding_streams.specs.ExactCalls.{reported_with}
 use Rattle.encoding_streams.proofs.DecoderYieldLemmas.{YieldParts-append}
 use Rattle.encoding_streams.proofs.Utf16StepLemmas.{scalars_append}
 

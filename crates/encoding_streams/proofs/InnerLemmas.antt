@@ -5,13 +5,14 @@ use Rattle.std.proofs.lemmas.List.{take_all, length-drop}
 use Rattle.encoding_definitions.specs.Parts.{Part, Character, IllFormed, Yields}
 use Rattle.encoding_definitions.specs.Prefixes.{WritesPrefix}
 use Rattle.encoding_definitions.specs.Sequence.{IsPending, IsIncomplete}
+use Rattle.encoding_definitions.proofs.PrefixesLemmas.{written_is}
 use Rattle.encoding_definitions.proofs.PartsLemmas.{no_sequence_in_incomplete}
 use Rattle.encoding_definitions.proofs.EncodingLemmas.{IsSequence-encode}
 use Rattle.std.proofs.lemmas.Bool.{and_parts}
 use Rattle.std.proofs.lemmas.Str.{length-encode, len_utf8_bounds}
 use Rattle.std.specs.Str.{all_scalars}
 use Rattle.std.specs.List.{flat_map}
-use Rattle.encoding_text.specs.Decoding.{AreDecoded, IsDecodeResult, DecodeStep}
+use Rattle.encoding_text.specs.Decoding.{AreDecoded, IsDecodeResult, DecodeStep, DecodeStepInto}
 use Rattle.encoding_text.specs.declared.utf_16.ByteOrder.{ByteOrder}
 use Rattle.encoding_text.specs.declared.utf_16.ByteOrder.TheVariants.{LittleEndian, BigEndian}
 use Rattle.encoding_text.specs.declared.decoder.DecoderResult.{DecoderResult}
@@ -19,9 +20,10 @@ use Rattle.encoding_text.specs.declared.decoder.DecoderResult.TheVariants.{Input
 use Rattle.encoding_streams.specs.declared.encoding.Encoding.TheVariants.{Utf8}
 use Rattle.encoding_text.specs.Utf16Bytes.{bytes_of_scalars}
 use Rattle.encoding_streams.specs.Utf16Parts.{bytes_of_utf16, IsFirstPartUtf16, IsPendingUtf16}
-use Rattle.encoding_streams.specs.Utf16Decoding.{DecodeUtf16StepInto, IsUtf16DecodeResult, NeedsMore, max_utf8_length_from_utf16}
+use Rattle.encoding_streams.specs.Utf16Decoding.{DecodeUtf16Step, DecodeUtf16StepInto, IsUtf16DecodeResult, NeedsMore, max_utf8_length_from_utf16}
 use Rattle.encoding_streams.specs.Decoders.{IsReportingCall, EndsReporting, FittingBeginsIn, decoding, bytes_in, max_utf8_length_with_replacement_in}
 use Rattle.encoding_streams.specs.DecoderSteps.{encoding_of}
+use Rattle.encoding_streams.specs.ExactCalls.{StepIn}
 use Rattle.encoding_runs.proofs.ReaderTextLemmas.{first_parts}
 use Rattle.encoding_runs.proofs.RepairLemmas.{pending_length}
 use Rattle.encoding_streams.proofs.DecoderYieldLemmas.{first_parts_utf16}
@@ -205,3 +207,18 @@ module _ {A : Type 0} (encode : ℕ → List A) (need : ℕ) where
           none_written call.scalars out call.out_is
               (quiet_units p src last result read call.scalars (length dst - length out) q none call.are_scalars call.pending_before call.answer),
         )
+
+  -- ---- exactly
+  pub utf8_step : (p src : List ℕ) (dst dst' : List A) (last : Bool) (result : DecoderResult) (read written : ℕ) (q : List ℕ)
+      → DecodeStepInto encode need p src dst dst' last result read written q
+      → StepIn encode need Utf8 p src (length dst) last result read (take written dst') q
+  utf8_step p src dst dst' last result read written q (out, writes, step) =
+      subst (λ xs. DecodeStep encode need p src (length dst) last result read xs q) (written_is dst dst' written out writes) step
+
+  pub utf16_step : (order : ByteOrder) (p src : List ℕ) (dst dst' : List A) (last : Bool) (result : DecoderResult) (read written : ℕ) (q : List ℕ)
+      → DecodeUtf16StepInto order encode need p src dst dst' last result read written q
+      → StepIn encode need (encoding_of order) p src (length dst) last result read (take written dst') q
+  utf16_step LittleEndian p src dst dst' last result read written q (out, writes, step) =
+      subst (λ xs. DecodeUtf16Step LittleEndian encode need p src (length dst) last result read xs q) (written_is dst dst' written out writes) step
+  utf16_step BigEndian p src dst dst' last result read written q (out, writes, step) =
+      subst (λ xs. DecodeUtf16Step BigEndian encode need p src (length dst) last result read xs q) (written_is dst dst' written out writes) step

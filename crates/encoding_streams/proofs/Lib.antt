@@ -3,6 +3,7 @@ pub mod Utf16PartLemmas
 pub mod Utf16StepLemmas
 pub mod Utf16WindowLemmas
 pub mod Utf16WriteLemmas
+pub mod Utf16PairedLemmas
 pub mod Utf16RoomLemmas
 pub mod Utf16ChainLemmas
 pub mod Utf16LossyLemmas
@@ -16,3 +17,8 @@ pub mod SniffCallLemmas
 pub mod ReplacingCallLemmas
 pub mod DecoderChainLemmas
 pub mod TextDestinationLemmas
+pub mod ExactLemmas
+pub mod ExactReplacingLemmas
+pub mod DecoderResultLemmas
+pub mod TextReaderLemmas
+pub mod MixedDecoderLemmas

@@ -10,7 +10,8 @@ use Rattle.encoding_text.specs.declared.decoder.DecoderResult.TheVariants.{Input
 use Rattle.encoding_streams.specs.declared.encoding.Encoding.{Encoding}
 use Rattle.encoding_streams.specs.declared.decoder.inner.Inner.{Inner}
 use Rattle.encoding_streams.specs.Decoders.{DecoderState, IsReportingCall, EndsReporting, decoding}
-use Rattle.encoding_streams.specs.DecoderSteps.{IsStop, Reports, reported_with, state_of}
+use Rattle.encoding_streams.specs.DecoderSteps.{IsStop, Reports, state_of}
+use Rattle.encoding_streams.specs.ExactCalls.{reported_with}
 use Rattle.encoding_streams.proofs.DecoderCallLemmas.{inner_stays, room_after, two_calls, two_suffice, two_replaced, held_ends, held_suffice, held_replaced, stopped, room_left, held_whole}
 
 abbrev kind : DecoderResult → ℕ
@@ -161,7 +162,7 @@ module _ {A : Type 0} (encode : ℕ → List A) (need : ℕ) (query replacing : 
         → ((e : Encoding) (n p : ℕ) → 0 < p → need ≤ query e n p) → ((e : Encoding) (n p : ℕ) → 0 < p → need ≤ replacing e n p) → final ≡ q
         → Reports encode need query replacing (decoding e p) src dst dst1 last result 0 w (decoding e final)
     stop_reports InputEmpty final all (nothing, end) holds holds' same = empty_reports final all nothing end same
-    stop_reports OutputFull final all (nothing, some, little) holds holds' same =
+    stop_reports OutputFull final all (nothing, some, little, marked) holds holds' same =
         full_reports final all nothing some (omega (
           arith,
           little,

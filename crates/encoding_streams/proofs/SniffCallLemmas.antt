@@ -1,5 +1,5 @@
 -- A call after the start of its stream was read.
-use Rattle.std.proofs.Common.{◌≡◌, ◌≢◌, ℕ, ◌+◌, ◌-◌, ◌<◌, ◌≤◌, inl, inr, ◌⊎◌, Bool, true, List, [], ◌++◌, length, take, drop, max, refl, sym, ap, subst, ◌∙◌, arith, append_assoc, length-append, take-add}
+use Rattle.std.proofs.Common.{◌≡◌, ◌≢◌, ℕ, ◌+◌, ◌-◌, ◌<◌, ◌≤◌, inl, inr, ◌⊎◌, Bool, true, List, [], ◌++◌, length, take, drop, max, refl, sym, ap, subst, ◌∙◌, arith, append-nil, append_assoc, length-append, take-add}
 use Rattle.std.proofs.lemmas.Bool.{both_ways}
 use Rattle.std.proofs.lemmas.List.{take_rest, drop-drop, length-drop, length-take}
 use Rattle.encoding_text.specs.declared.decoder.DecoderResult.{DecoderResult}
@@ -10,6 +10,7 @@ use Rattle.encoding_streams.specs.declared.encoding.BomHandling.{BomHandling}
 use Rattle.encoding_streams.specs.declared.encoding.BomHandling.TheVariants.{Off, Remove, Sniff}
 use Rattle.encoding_streams.specs.Decoders.{DecoderState, EndsReporting, FittingBeginsIn, StartsWithIn, YieldParts, SufficesReporting, left, queried, queried_in}
 use Rattle.encoding_streams.specs.DecoderSteps.{IsSniffed, Reports}
+use Rattle.encoding_streams.specs.ExactCalls.{IsIdle}
 use Rattle.encoding_streams.proofs.ReportedCallLemmas.{not_full, not_report}
 
 -- ---- the queried lengths
@@ -76,8 +77,31 @@ nothing_in Utf8 bytes = refl
 nothing_in Utf16Le bytes = refl
 nothing_in Utf16Be bytes = refl
 
-nothing_yielded : (before after : Encoding × List ℕ) → after ≡ before → YieldParts before after []
+pub nothing_yielded : (before after : Encoding × List ℕ) → after ≡ before → YieldParts before after []
 nothing_yielded before after e = subst (λ x. YieldParts before x []) (sym e) (record { same = refl; first = nothing_in before.0 before.1 })
+
+-- with nothing to read, a call changes nothing
+pub idle_reports : {A : Type 0} (encode : ℕ → List A) (need : ℕ) (query replacing : Encoding → ℕ → ℕ → ℕ) (old : DecoderState) (src : List ℕ) (dst : List A)
+    (last : Bool) → IsIdle src last → length old.pending ≤ 3 → Reports encode need query replacing old src dst dst last InputEmpty 0 0 old
+idle_reports encode need query replacing old src dst last (none, unmarked) few = record {
+  call = record {
+    out = [];
+    writes = record { count = refl; fits = omega arith; placed = refl };
+    within = omega arith;
+    parts = [];
+    decoded = ([], [], refl, refl, refl, refl);
+    yields = λ more end. nothing_yielded (left old (src ++ more)) (left old (src ++ more)) refl;
+    keeps = ([], append-nil old.pending);
+    at_most_three = few;
+    ends = (sym none, λ marked. absurd (both_ways _ unmarked marked));
+  };
+  suffices = λ m l marked h. (not_full, omega (arith, h, same query m));
+  between_reports = λ m l marked h. (not_full, omega (arith, h, same replacing m));
+  replaced = λ m l marked h report. absurd (not_report InputEmpty refl report);
+}
+  where
+    same : (q : Encoding → ℕ → ℕ → ℕ) (m : ℕ) → queried q old (m - 0) ≡ queried q old m
+    same q m = ap (queried q old) (omega arith)
 
 module _ {A : Type 0} (encode : ℕ → List A) (need : ℕ) (query replacing : Encoding → ℕ → ℕ → ℕ)
     (grows : (e : Encoding) (n p m q : ℕ) → n + p ≤ m + q → query e n p ≤ query e m q)

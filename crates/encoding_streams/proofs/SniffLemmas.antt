@@ -13,6 +13,7 @@ use Rattle.encoding_streams.specs.declared.encoding.BomHandling.{BomHandling}
 use Rattle.encoding_streams.specs.declared.encoding.BomHandling.TheVariants.{Off, Remove, Sniff}
 use Rattle.encoding_streams.specs.Marks.{mark, found_mark, begins_mark_of, begins_mark, after_mark, IsUndecided}
 use Rattle.encoding_streams.specs.Decoders.{DecoderState, left}
+use Rattle.encoding_streams.specs.ExactCalls.{start_after}
 use Rattle.encoding_streams.specs.DecoderSteps.{IsSniffed}
 
 -- one is a prefix of the other
@@ -258,8 +259,22 @@ module _ (bom : BomHandling) (e : Encoding) (p src : List ℕ) where
       encoding = looked_for bom (subst (IsFound bom e window) found (found_is bom e window)).0;
       found = λ _ _. refl;
       stays = λ none. absurd (omega (arith, none, size, long_enough));
+      waiting = λ on. absurd (on refl);
+      decided = λ _. (
+        λ w. omega (
+          arith,
+          mark_within,
+          length-append p src,
+          within_mark bom e m (p ++ src) [] w.1
+              (ap (found_mark bom e) (append-nil (p ++ src)) ∙ found_here),
+        ),
+        ap (start_after old) found_here ∙ (λ i. record { encoding = m; pending = []; skipped = (sym size) i }),
+      );
     }
       where
+        found_here : found_mark bom e (p ++ src) ≡ Some m
+        found_here = ap (λ xs. found_mark bom e (p ++ xs)) (sym (append-nil src)) ∙ found_whole m [] found
+
         rest : (more : List ℕ) → drop read src ++ more ≡ drop (length (mark m)) (p ++ (src ++ more))
         rest more =
             let short : read ≤ length src = omega (arith, size, mark_within) in
@@ -289,6 +304,11 @@ module _ (bom : BomHandling) (e : Encoding) (p src : List ℕ) where
         encoding = inr refl;
         found = λ _ off. absurd (both_ways false refl (subst (λ x. begins_mark x e window ≡ true) off begins));
         stays = λ none. omega (arith, ap length whole, length-append p src, none);
+        waiting = λ _. (
+          (unmarked, subst (λ xs. begins_mark bom e xs ≡ true) whole begins),
+          λ i. record { encoding = e; bom = bom; pending = whole i },
+        );
+        decided = λ off. absurd (both_ways false refl (subst (λ x. begins_mark x e window ≡ true) off begins));
       }
 
   -- they are not
@@ -305,8 +325,18 @@ module _ (bom : BomHandling) (e : Encoding) (p src : List ℕ) where
     encoding = inr refl;
     found = λ some _. absurd (omega (arith, some));
     stays = λ _. refl;
+    waiting = λ on. absurd (on refl);
+    decided = λ _. (no_wait, ap (start_after old) found_none);
   }
     where
+      no_wait : (last ≡ false) × (begins_mark bom e (p ++ src) ≡ true) → ⊥
+      no_wait (unmarked, begins) = elim why [
+        | inl marked ↦ both_ways _ unmarked marked
+        | inr none_begun ↦
+            both_ways _ none_begun (subst (λ xs. begins_mark bom e xs ≡ true)
+            (sym (take_all 4 (p ++ src) (omega (arith, begun_short bom e (p ++ src) begins)))) begins)
+      ]
+
       short_or_long : (more : List ℕ) → more ≡ [] → (3 ≤ length window) ⊎ (drop 4 (p ++ src) ++ more ≡ [])
       short_or_long more end = elim (cases_lt 4 (length (p ++ src))) [
         | inl long ↦ inl (omega (arith, length-take 4 (p ++ src), long))
@@ -320,6 +350,11 @@ module _ (bom : BomHandling) (e : Encoding) (p src : List ℕ) where
         | inr begins ↦ inr (inr (begins_each bom e m window is begins))
       ]
 
+      found_none : found_mark bom e (p ++ src) ≡ None
+      found_none = ap (λ xs. found_mark bom e (p ++ xs)) (sym (append-nil src)) ∙ none_so bom e (p ++ (src ++ [])) (λ m is.
+          subst (λ xs. starts_with nat_eq xs (mark m) ≡ false) (sym (cut []))
+          (none_stays window (drop 4 (p ++ src) ++ []) m (subst (IsFound bom e window) none (found_is bom e window) m is) (shows m is [] (λ _. refl))))
+
 -- ---- no mark is looked for
 pub sniff_off : (e : Encoding) (bom : BomHandling) (p src : List ℕ) (last : Bool) → bom ≡ Off → length p ≤ 3
     → IsSniffed (record { encoding = e; bom = bom; pending = p }) src last (record { encoding = e; bom = bom; pending = p }) 0
@@ -332,6 +367,11 @@ sniff_off e bom p src last off few = record {
   encoding = inr refl;
   found = λ some _. absurd (omega (arith, some));
   stays = λ _. refl;
+  waiting = λ on. absurd (on off);
+  decided = λ _. (
+    λ w. both_ways false refl (subst (λ b. begins_mark b e (p ++ src) ≡ true) off w.1),
+    ap (λ b. start_after (record { encoding = e; bom = bom; pending = p }) (found_mark b e (p ++ src))) off,
+  );
 }
 
 -- ---- how much is left

@@ -12,7 +12,7 @@ use Rattle.std.proofs.lemmas.List.Concat.{flat_map-append}
 use Rattle.std.proofs.lemmas.Nat.{from_le_bytes-to_le_bytes_2, from_be_bytes-to_be_bytes_2, le_bytes_2, be_bytes_2}
 use Rattle.std.proofs.str.Utf16.{one_unit}
 use lib.Utf8.{scalar_cases}
-use Rattle.encoding_text.specs.Utf16.{IsHighSurrogate, IsLowSurrogate}
+use Rattle.encoding_text.specs.Utf16.{AreCodeUnits, IsHighSurrogate, IsLowSurrogate}
 use Rattle.encoding_text.specs.Encoding.{IsPendingSurrogate}
 use Rattle.encoding_text.specs.Utf16Bytes.{bytes_of_scalars, unit_bytes, utf16_bytes}
 use Rattle.encoding_text.specs.declared.utf_16.ByteOrder.{ByteOrder}
@@ -77,6 +77,15 @@ length-utf16_bytes order (u ∷ us) =
 
 pub utf16_bytes-append : (order : ByteOrder) (us vs : List ℕ) → utf16_bytes order (us ++ vs) ≡ utf16_bytes order us ++ utf16_bytes order vs
 utf16_bytes-append order us vs = flat_map-append (unit_bytes order) us vs
+
+-- code units with the same bytes are the same
+pub same_units : (order : ByteOrder) (us vs : List ℕ) → AreCodeUnits us → AreCodeUnits vs → utf16_bytes order us ≡ utf16_bytes order vs → us ≡ vs
+same_units order [] [] f g e = refl
+same_units order [] (v ∷ vs) f g e = absurd (omega (arith, ap length e, length-append (unit_bytes order v) (utf16_bytes order vs), length-unit_bytes order v))
+same_units order (u ∷ us) [] f g e = absurd (omega (arith, ap length e, length-append (unit_bytes order u) (utf16_bytes order us), length-unit_bytes order u))
+same_units order (u ∷ us) (v ∷ vs) f g e =
+    let (first, rest) = same_unit order u v (utf16_bytes order us) (utf16_bytes order vs) (f zero) (g zero) e in
+    (λ i. first i ∷ same_units order us vs (λ k. f (suc k)) (λ k. g (suc k)) rest i)
 
 pub take-utf16_bytes : (order : ByteOrder) (us : List ℕ) (n : ℕ) → n ≤ length us → take (2 * n) (utf16_bytes order us) ≡ utf16_bytes order (take n us)
 take-utf16_bytes order us n h =

@@ -1,24 +1,28 @@
 -- Steps of a call of the UTF-16 decoder: how one continues another, what a block of code units is, and what the first
 -- bytes after the pending ones are.
-use Rattle.std.proofs.Common.{◌≡◌, ◌≢◌, ℕ, ◌+◌, ◌-◌, ◌*◌, ◌<◌, ◌≤◌, inl, inr, Bool, true, List, [], ◌∷◌, ◌++◌, length, take, drop, refl, sym, ap, ◌∙◌, arith, subst, append_assoc, take-add, encode_utf8}
+use Rattle.std.proofs.Common.{◌≡◌, ◌≢◌, ℕ, zero, suc, ◌+◌, ◌-◌, ◌*◌, ◌<◌, ◌≤◌, inl, inr, Bool, true, List, [], ◌∷◌, ◌++◌, length, take, drop, refl, sym, ap, ◌∙◌, arith, subst, append_assoc, take-add, encode_utf8}
 use Rattle.std.specs.Char.Escape.{encode_utf16}
 use Rattle.std.specs.List.{flat_map}
-use Rattle.std.specs.Str.{all_scalars}
+use Rattle.std.specs.Str.{IsAscii, all_scalars}
 use Rattle.std.proofs.lemmas.Bool.{and_parts, and_from, cases_lt}
-use Rattle.std.proofs.lemmas.List.{append-nil, length-append, length-drop, length-take, length-take-le, take_at, take_all, take_rest, drop_at, drop-drop, take-append-drop, take-take}
+use Rattle.std.proofs.lemmas.List.{append-nil, length-append, length-drop, length-take, take_at, take_all, take_rest, drop_at, drop-drop, take-append-drop, take-take}
 use Rattle.std.proofs.lemmas.List.Concat.{flat_map-append}
+use Rattle.std.proofs.lemmas.Str.{encodes-IsAscii}
+use Rattle.std.proofs.str.Utf16.{one_unit}
+use Rattle.encoding_definitions.proofs.EncodingLemmas.{flat_map-encode_utf8}
+use lib.Utf8.{low_scalar}
 use borrow.Rule.Slice.PartMut.{put_mid}
-use Rattle.encoding_text.specs.Parts.{Character, IllFormed}
+use Rattle.encoding_text.specs.Parts.{IllFormed}
 use Rattle.encoding_text.specs.Prefixes.{WritesPrefix}
 use Rattle.encoding_text.specs.Utf16Bytes.{bytes_of_scalars, utf16_bytes}
 use Rattle.encoding_text.specs.declared.utf_16.ByteOrder.{ByteOrder}
 use Rattle.encoding_text.specs.declared.decoder.DecoderResult.{DecoderResult}
 use Rattle.encoding_text.specs.declared.decoder.DecoderResult.TheVariants.{InputEmpty, OutputFull, Malformed}
-use Rattle.encoding_text.proofs.PrefixesLemmas.{WritesPrefix-nil, WritesPrefix-length, WritesPrefix_after, written_is}
+use Rattle.encoding_text.proofs.PrefixesLemmas.{WritesPrefix-nil, WritesPrefix-length, WritesPrefix_after}
 use Rattle.encoding_streams.specs.Utf16Parts.{IsPendingUtf16, IsMalformedUtf16, IsFirstPartUtf16}
 use Rattle.encoding_streams.specs.Utf16Decoding.{NeedsMore, IsUtf16DecodeResult, DecodeUtf16StepInto}
 use Rattle.encoding_streams.specs.Utf16Steps.{Advances, BeginsTooLong, WritesUnits}
-use Rattle.encoding_streams.proofs.Utf16ByteLemmas.{length-utf16_bytes, utf16_bytes-append, take-utf16_bytes, bytes_of_scalars-append, character_some, pending_nil}
+use Rattle.encoding_streams.proofs.Utf16ByteLemmas.{length-utf16_bytes, utf16_bytes-append, bytes_of_scalars-append, pending_nil}
 use Rattle.encoding_streams.proofs.Utf16PartLemmas.{part_bytes}
 
 -- the characters of two lists
@@ -77,18 +81,6 @@ module _ {A : Type 0} (order : ByteOrder) (encode : ℕ → List A) where
     writes = joined_writes old mid sub written w a.scalars b.scalars a.writes b.writes;
   }
 
-  -- what comes next doesn't fit, from where the next step ended
-  pub too_long_after : (src : List ℕ) (old mid out : List A) (read written r w : ℕ) → WritesPrefix old mid written out
-      → BeginsTooLong order encode (drop r (take (length src - read) (drop read src))) (length (take (length mid - written) (drop written mid)) - w)
-      → BeginsTooLong order encode (drop (read + r) src) (length old - (written + w))
-  too_long_after src old mid out read written r w writes (c, rest, s, e, l) = (
-    c,
-    rest,
-    s,
-    sym (ap (drop r) (take_rest src read) ∙ drop-drop r read src) ∙ e,
-    omega (arith, l, rest_room old mid out written writes),
-  )
-
   -- ---- the call ends after what was read
   -- all was read, and nothing is pending
   pub all_after : (need : ℕ) (p src : List ℕ) (old new : List A) (last : Bool) (read written : ℕ) → IsPendingUtf16 order p
@@ -105,39 +97,6 @@ module _ {A : Type 0} (order : ByteOrder) (encode : ℕ → List A) where
       pending_before = before;
       pending = pending_nil order;
       answer = (e, ap (λ xs. p ++ xs) (sym (take_all read src (omega (arith, e)))) ∙ a.spelled, λ _. refl);
-    },
-  )
-
-  -- a character that doesn't fit comes next, and nothing is pending
-  pub full_after : (need : ℕ) (p src : List ℕ) (old new : List A) (last : Bool) (read written : ℕ) → IsPendingUtf16 order p
-      → Advances order encode p src old new read written [] → BeginsTooLong order encode (drop read src) (length old - written)
-      → DecodeUtf16StepInto order encode need p src old new last OutputFull read written []
-  full_after need p src old new last read written before a (c, rest, s, e, l) = (
-    flat_map encode a.scalars,
-    a.writes,
-    record {
-      scalars = a.scalars;
-      are_scalars = a.are_scalars;
-      out_is = refl;
-      fits = omega (arith, a.writes.count, a.writes.fits);
-      pending_before = before;
-      pending = pending_nil order;
-      answer = (
-        omega (
-          arith,
-          ap length e,
-          length-append (utf16_bytes order (encode_utf16 c)) rest,
-          character_some order c s,
-          length-drop read src,
-        ),
-        a.within,
-        a.spelled,
-        (λ some. absurd (some refl)),
-        Character c,
-        rest,
-        (s, e),
-        subst (λ n. length old - n < length (encode c)) a.writes.count l,
-      );
     },
   )
 
@@ -299,26 +258,6 @@ module _ {A : Type 0} (order : ByteOrder) (encode : ℕ → List A) where
           w.stops c rest e,
         )
 
--- the bytes of all code units of a block
-pub block_spelled : (order : ByteOrder) (src us old new : List ℕ) (bytes count : ℕ) → bytes ≡ 2 * count → utf16_bytes order us ≡ take bytes src
-    → WritesPrefix old new count us → (utf16_bytes order (take count new) ≡ take (2 * count) src) × (count ≡ length (take count new))
-block_spelled order src us old new bytes count e f w =
-    let units : take count new ≡ us = sym (written_is old new count us w) in
-    (ap (utf16_bytes order) units ∙ f ∙ ap (λ n. take n src) e, w.count ∙ ap length (sym units))
-
--- the bytes of the first code units of a block
-pub units_spelled : (order : ByteOrder) (src us old new : List ℕ) (bytes count valid : ℕ) → bytes ≡ 2 * count → utf16_bytes order us ≡ take bytes src
-    → WritesPrefix old new count us → valid ≤ length (take count new)
-    → utf16_bytes order (take valid new) ≡ take (2 * length (take valid new)) src
-units_spelled order src us old new bytes count valid twice e w l =
-    let units : take count new ≡ us = sym (written_is old new count us w) in
-    let less : valid ≤ count = omega (arith, l, length-take count new) in
-    let prefix : take valid new ≡ take valid us = sym (take-take valid count new less) ∙ ap (take valid) units in
-    let long : length (take valid us) ≡ valid = length-take-le valid us (omega (arith, w.count, less)) in
-    ap (utf16_bytes order) prefix ∙ sym (take-utf16_bytes order us valid (omega (arith, w.count, less)))
-    ∙ ap (take (2 * valid)) (e ∙ ap (λ n. take n src) twice)
-    ∙ take-take (2 * valid) (2 * count) src (omega (arith, less)) ∙ ap (λ n. take (2 * n) src) (sym (ap length prefix ∙ long))
-
 -- characters are read and written
 pub scalars_advance : (order : ByteOrder) (src : List ℕ) {old new : List ℕ} {read written : ℕ} → read ≤ length src
     → (scalars : List ℕ) × (all_scalars scalars ≡ true)
@@ -331,3 +270,24 @@ scalars_advance order src within (scalars, are, spelled, writes) = record {
   spelled = sym spelled ∙ sym (append-nil (utf16_bytes order (flat_map encode_utf16 scalars)));
   writes = writes;
 }
+
+-- ASCII is the same in UTF-16 and in UTF-8
+ascii_units : (us : List ℕ) → IsAscii us → (all_scalars us ≡ true) × (flat_map encode_utf16 us ≡ us)
+ascii_units [] h = (refl, refl)
+ascii_units (u ∷ us) h =
+    let rest = ascii_units us (λ i. h (suc i)) in
+    let small : u < 0x80 = h zero in
+    (and_from _ _ (low_scalar u (omega arith)) rest.0, (λ i. one_unit u (omega arith) i ++ rest.1 i))
+
+-- it is read and written
+pub ascii_advance : (order : ByteOrder) (src : List ℕ) {old new : List ℕ} {count : ℕ} → 2 * count ≤ length src
+    → (units : List ℕ) × (utf16_bytes order units ≡ take (2 * count) src) × IsAscii units × WritesPrefix old new count units
+    → Advances order encode_utf8 [] src old new (2 * count) count []
+ascii_advance order src {old} {new} {count} within (units, spelled, ascii, writes) =
+    let same = ascii_units units ascii in
+    scalars_advance order src within (
+      units,
+      same.0,
+      ap (utf16_bytes order) same.1 ∙ spelled,
+      subst (λ xs. WritesPrefix old new count xs) (sym (flat_map-encode_utf8 units ∙ encodes-IsAscii units ascii)) writes,
+    )

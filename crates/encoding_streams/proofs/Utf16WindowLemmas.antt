@@ -7,16 +7,16 @@ use Rattle.std.proofs.lemmas.Bool.{cases_lt}
 use Rattle.std.proofs.lemmas.List.{append-nil, length-append, length-drop, length-take, length-take-le, take_at, take_all, drop_all, drop_at, drop-drop, take-append-drop, take-append-le, drop-append-le, take-take, nil_from_length}
 use Rattle.std.proofs.Math.Seq.{take-append-add}
 use Rattle.encoding_text.specs.Parts.{Part, Character, IllFormed}
-use Rattle.encoding_text.specs.Prefixes.{WritesPrefix, IsLongestPrefix}
+use Rattle.encoding_text.specs.Prefixes.{WritesPrefix}
 use Rattle.encoding_text.specs.Surrogates.{IsValidUtf16}
 use Rattle.encoding_text.specs.Encoding.{IsPendingSurrogate}
-use Rattle.encoding_text.specs.FirstScalar.{IsFirstPart16}
-use Rattle.encoding_text.specs.Utf16.{AreCodeUnits, Unpaired}
+use Rattle.encoding_text.specs.Utf16.{IsHighSurrogate, IsLowSurrogate}
 use Rattle.encoding_text.specs.Utf16Bytes.{bytes_of_scalars, unit_bytes, utf16_bytes}
 use Rattle.encoding_text.specs.declared.utf_16.ByteOrder.{ByteOrder}
 use Rattle.encoding_text.specs.declared.decoder.DecoderResult.TheVariants.{InputEmpty, OutputFull, Malformed}
 use Rattle.encoding_text.proofs.PrefixesLemmas.{WritesPrefix-nil}
-use Rattle.encoding_text.proofs.SurrogateLemmas.{unpaired_after}
+use Rattle.std.proofs.str.Utf16.{IsPair}
+use Rattle.encoding_text.proofs.SurrogateLemmas.{valid-encode, valid_more_one, valid_more_two}
 use Rattle.encoding_streams.specs.Utf16Parts.{IsPendingUtf16, IsMalformedUtf16, IsFirstPartUtf16}
 use Rattle.encoding_streams.specs.Utf16Decoding.{NeedsMore, DecodeUtf16StepInto}
 use Rattle.encoding_streams.specs.Utf16Steps.{Advances, WritesUnits, BeginsUnpaired}
@@ -265,27 +265,6 @@ module _ {A : Type 0} (order : ByteOrder) (encode : ℕ → List A) (need : ℕ)
         (subst (λ xs. IsMalformedUtf16 order w xs last) (sym (drop_all (length src) src (omega arith))) (cut_off l some)) room
 
 -- ---- code units that start with no character
-unpaired_first : (us : List ℕ) → AreCodeUnits us → IsLongestPrefix IsValidUtf16 us 0 → 0 < length us
-    → IsFirstPart16 us (Unpaired (get_or us 0 0)) (drop 1 us)
-unpaired_first us units none some = unpaired_after us 0 units none some
-
-pub unpaired_two : (us : List ℕ) → AreCodeUnits us → IsLongestPrefix IsValidUtf16 us 0 → 1 < length us → BeginsUnpaired us
-unpaired_two [] units none two = absurd (omega arith)
-unpaired_two (u ∷ []) units none two = absurd (omega arith)
-unpaired_two (u ∷ v ∷ us) units none two =
-    let (kind, whole, apart) = unpaired_first (u ∷ v ∷ us) units none (omega arith) in
-    elim kind [ inl high ↦ inr (high, units 1, apart high) | inr low ↦ inl low ]
-
-pub unpaired_one : (us : List ℕ) → AreCodeUnits us → IsLongestPrefix IsValidUtf16 us 0 → length us ≡ 1
-    → (0xDC00 ≤ get_or us 0 0 → BeginsUnpaired us) × (get_or us 0 0 < 0xDC00 → IsPendingSurrogate us)
-unpaired_one [] units none one = absurd (omega arith)
-unpaired_one (u ∷ []) units none one =
-    let (kind, whole, apart) = unpaired_first (u ∷ []) units none (omega arith) in (
-      (λ h. elim kind [ inl high ↦ absurd (omega (arith, high, h)) | inr low ↦ low ]),
-      (λ h. elim kind [ inl high ↦ high | inr low ↦ absurd (omega (arith, low, h)) ]),
-    )
-unpaired_one (u ∷ v ∷ us) units none one = absurd (omega arith)
-
 -- the bytes of these code units
 pub bytes_unpaired : (order : ByteOrder) (w us : List ℕ) (count : ℕ) → utf16_bytes order us ≡ take (2 * count) w → count ≡ length us → 2 * count ≤ length w
     → BeginsUnpaired us → (2 ≤ length w) × ((more : List ℕ) (last : Bool) → IsMalformedUtf16 order (take 2 w) (drop 2 w ++ more) last)
@@ -336,3 +315,42 @@ bytes_pending order w us count e c m p = record {
     few [] p = omega arith
     few (u ∷ []) p = omega arith
     few (u ∷ v ∷ us) p = absurd p
+
+-- ---- one code unit, or two
+pub first_two : (w : List ℕ) → 2 ≤ length w → take 2 w ≡ get_or w 0 0 ∷ get_or w 1 0 ∷ []
+first_two [] l = absurd (omega (arith, l))
+first_two (a ∷ []) l = absurd (omega (arith, l))
+first_two (a ∷ b ∷ w) l = refl
+
+pub all_four : (w : List ℕ) → 4 ≤ length w → take 4 w ≡ get_or w 0 0 ∷ get_or w 1 0 ∷ get_or w 2 0 ∷ get_or w 3 0 ∷ []
+all_four [] l = absurd (omega (arith, l))
+all_four (a ∷ []) l = absurd (omega (arith, l))
+all_four (a ∷ b ∷ []) l = absurd (omega (arith, l))
+all_four (a ∷ b ∷ c ∷ []) l = absurd (omega (arith, l))
+all_four (a ∷ b ∷ c ∷ d ∷ w) l = refl
+
+module _ (order : ByteOrder) (w : List ℕ) (u : ℕ) (first : unit_bytes order u ≡ get_or w 0 0 ∷ get_or w 1 0 ∷ []) where
+  pub one_spelled : 2 ≤ length w → utf16_bytes order (u ∷ []) ≡ take 2 w
+  one_spelled l = append-nil (unit_bytes order u) ∙ first ∙ sym (first_two w l)
+
+  pub two_spelled : (v : ℕ) → unit_bytes order v ≡ get_or w 2 0 ∷ get_or w 3 0 ∷ [] → 4 ≤ length w → utf16_bytes order (u ∷ v ∷ []) ≡ take 4 w
+  two_spelled v second l = (λ i. first i ++ (second i ++ [])) ∙ sym (all_four w l)
+
+pub one_valid : (u : ℕ) → u < 0x10000 → (0xD800 ≤ u → u ≤ 0xDFFF → ⊥) → IsValidUtf16 (u ∷ [])
+one_valid u l n = valid_more_one (u ∷ []) 0 (omega arith) l (valid-encode [] [] refl refl) n
+
+pub two_valid : (u v : ℕ) → IsPair u v → IsValidUtf16 (u ∷ v ∷ [])
+two_valid u v p = valid_more_two (u ∷ v ∷ []) 0 (omega arith) (valid-encode [] [] refl refl) p
+
+-- a surrogate that is no low one
+pub high_of : (u : ℕ) → (0xD800 ≤ u) × (u ≤ 0xDFFF) → (IsLowSurrogate u → ⊥) → IsHighSurrogate u
+high_of u s n = (s.0, elim (cases_lt 0xDBFF u) [ inl l ↦ absurd (n (omega arith, s.1)) | inr l ↦ l ])
+
+-- what four bytes start with, and so those that they start
+pub unpaired_start : (order : ByteOrder) (src w : List ℕ) → w ≡ take 4 src → 2 ≤ length w
+    → ((more : List ℕ) (last : Bool) → IsMalformedUtf16 order (take 2 w) (drop 2 w ++ more) last) → IsMalformedUtf16 order (take 2 src) (drop 2 src) false
+unpaired_start order src w first two unpaired =
+    subst (λ xs. IsMalformedUtf16 order xs (drop 2 src) false) (ap (take 2) first ∙ take-take 2 4 src (omega arith))
+    (subst (λ xs. IsMalformedUtf16 order (take 2 w) xs false)
+    (sym (drop-append-le 2 w (drop 4 src) two) ∙ ap (λ xs. drop 2 (xs ++ drop 4 src)) first ∙ ap (drop 2) (take-append-drop 4 src))
+    (unpaired (drop 4 src) false))

@@ -1,20 +1,24 @@
 -- What is written of valid code units: the characters that fit, in UTF-8 or in UTF-16.
-use Rattle.std.proofs.Common.{◌≡◌, ℕ, zero, suc, ◌+◌, ◌-◌, ◌<◌, ◌≤◌, inl, inr, true, min, List, [], ◌∷◌, ◌++◌, length, take, drop, map, get_or, encode_utf8, refl, sym, ap, ◌∙◌, arith, subst, append_assoc}
+use Rattle.std.proofs.Common.{◌≡◌, ℕ, zero, suc, ◌+◌, ◌-◌, ◌*◌, ◌<◌, ◌≤◌, inl, inr, true, min, List, [], ◌∷◌, ◌++◌, length, take, drop, map, get_or, encode_utf8, refl, sym, ap, ◌∙◌, arith, subst, append_assoc}
 use Rattle.std.specs.Char.{IsScalar}
 use Rattle.std.specs.Char.Escape.{encode_utf16}
 use Rattle.std.specs.List.{flat_map}
 use Rattle.std.specs.Str.{all_scalars}
 use Rattle.std.proofs.lemmas.Bool.{and_parts, cases_lt}
-use Rattle.std.proofs.lemmas.List.{append-nil, length-append, length-take-le, take_at, drop_at, length-drop, length-map, take-append-drop, take-take, get_or-drop, get_or-take}
+use Rattle.std.proofs.lemmas.List.{append-nil, length-append, length-take, length-take-le, take_at, drop_at, length-drop, length-map, take-append-drop, take-take, get_or-drop, get_or-take, get_or_past}
 use Rattle.std.proofs.lemmas.List.Concat.{flat_map-append}
 use Rattle.std.proofs.str.Utf16.{one_unit, IsPair}
 use Rattle.encoding_text.specs.Prefixes.{WritesPrefix, IsLongestPrefix}
 use Rattle.encoding_text.specs.Surrogates.{IsValidUtf16}
-use Rattle.encoding_text.specs.Utf16.{Part16, Character16, units_of_part16, utf8_of_part16, IsUtf8OfLongestPrefix}
+use Rattle.encoding_text.specs.Utf16.{AreCodeUnits, Part16, Character16, units_of_part16, utf8_of_part16, IsUtf8OfLongestPrefix}
 use Rattle.encoding_text.proofs.SurrogateLemmas.{scalars_of_valid, valid-encode, valid_stop}
 use Rattle.encoding_definitions.proofs.Utf16Lemmas.{parts_unique, halves}
-use Rattle.encoding_streams.specs.Utf16Steps.{WritesUnits}
-use Rattle.encoding_streams.proofs.Utf16StepLemmas.{scalars_split}
+use Rattle.encoding_text.specs.Utf16Bytes.{utf16_bytes}
+use Rattle.encoding_text.specs.declared.utf_16.ByteOrder.{ByteOrder}
+use Rattle.encoding_text.proofs.PrefixesLemmas.{written_is}
+use Rattle.encoding_streams.specs.Utf16Steps.{Advances, AreValidUnitsOf, WritesUnits}
+use Rattle.encoding_streams.proofs.Utf16ByteLemmas.{same_units}
+use Rattle.encoding_streams.proofs.Utf16StepLemmas.{scalars_split, block_advances}
 
 -- ---- in UTF-8
 -- of parts that are characters
@@ -176,3 +180,26 @@ writes_all units old new valid w =
       writes = subst (λ xs. WritesPrefix old new (length units) xs) (sym had.1) w;
       stops = λ c rest e. cc;
     }
+
+-- ---- a piece that was tested first
+-- the first of them are code units too
+pub taken_fit : (us : List ℕ) (n : ℕ) → AreCodeUnits us → AreCodeUnits (take n us)
+taken_fit us n fit k = elim (cases_lt k n) [
+  | inl l ↦ omega (arith, get_or-take n us k 0 l, fit k)
+  | inr l ↦ omega (arith, get_or_past (take n us) k 0 (omega (arith, l, length-take n us)))
+]
+
+-- code units without an unpaired surrogate are read and written
+pub valid_advance : (order : ByteOrder) (src us vs old new : List ℕ) (read count : ℕ) → read ≡ 2 * count → AreValidUnitsOf order (take read src) us
+    → utf16_bytes order vs ≡ take read src → AreCodeUnits new → WritesPrefix old new count vs
+    → Advances order encode_utf16 [] src old new read count []
+valid_advance order src us vs old new read count twice is spelled fit w =
+    let placed : take count new ≡ vs = sym (written_is old new count vs w) in
+    let units : AreCodeUnits vs = subst AreCodeUnits placed (taken_fit new count fit) in
+    let same : vs ≡ us = same_units order vs us units is.fit (spelled ∙ sym is.spelled) in
+    let long : count ≡ length us = w.count ∙ ap length same in
+    let written = writes_all us old new is.valid (subst (λ n. WritesPrefix old new n us) long (subst (λ xs. WritesPrefix old new count xs) same w)) in
+    let bytes : read ≡ 2 * length us = twice ∙ ap (λ n. 2 * n) long in
+    let block = block_advances order encode_utf16 src us old new (length us) (length us) written (is.spelled ∙ ap (λ n. take n src) bytes) in
+    subst (λ n. Advances order encode_utf16 [] src old new n count []) (sym bytes)
+    (subst (λ n. Advances order encode_utf16 [] src old new (2 * length us) n []) (sym long) block)

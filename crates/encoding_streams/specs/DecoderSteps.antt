@@ -14,6 +14,7 @@ use Rattle.encoding_text.specs.declared.decoder.DecoderResult.{DecoderResult}
 use Rattle.encoding_text.specs.declared.decoder.DecoderResult.TheVariants.{InputEmpty, OutputFull, Malformed}
 use Rattle.encoding_streams.specs.declared.decoder.state.State.{State}
 use Rattle.encoding_streams.specs.Marks.{begins_mark}
+use Rattle.encoding_streams.specs.ExactCalls.{IsExactCall, IsExactReplacingCall, Waits, ended_by, start_of}
 use Rattle.encoding_streams.specs.Decoders.{DecoderState, decoding, left, Keeps, IsReportingCall, SufficesReporting, SufficesBetweenReports, Replaces, EndsReplacing, queried}
 
 -- the encoding of this byte order
@@ -40,6 +41,9 @@ pub record IsSniffed (old : DecoderState) (src : List ℕ) (last : Bool) (new : 
   pub encoding : (old.bom ≡ Sniff) ⊎ (new.encoding ≡ old.encoding)
   pub found : 0 < read → new.bom ≡ Off → new.pending ≡ []
   pub stays : read ≡ 0 → length new.pending ≡ length old.pending
+  pub waiting : (new.bom ≡ Off → ⊥) → Waits old src last × (new ≡ record { encoding = old.encoding; bom = old.bom; pending = old.pending ++ src })
+  pub decided : new.bom ≡ Off → (Waits old src last → ⊥)
+      × (start_of old src ≡ record { encoding = new.encoding; pending = new.pending; skipped = read })
 
 -- how many malformed sequences a step replaced: one, if it doesn't end the call
 abbrev pub replaced_by : Option CoderResult → ℕ
@@ -72,12 +76,6 @@ pub record Reports {A : Type 0} (encode : ℕ → List A) (need : ℕ) (query re
   pub between_reports : SufficesReporting replacing old src (length dst) last result read written new
   pub replaced : SufficesBetweenReports replacing (length (encode 0xFFFD)) old src (length dst) last result read written new
 
--- the result, with `rest` bytes read after the malformed sequence
-abbrev pub reported_with : DecoderResult → ℕ → DecoderResult
-reported_with InputEmpty rest = InputEmpty
-reported_with OutputFull rest = OutputFull
-reported_with (Malformed k second) rest = Malformed k rest
-
 -- with nothing to read and nothing pending a call reports nothing; otherwise `need` code units are free after a report
 abbrev pub LeavesFree : ℕ → List ℕ → List ℕ → ℕ → DecoderResult → ℕ → Type 0
 LeavesFree need p src room result written = IsReport result → 0 < length p + length src → written + need ≤ room
@@ -86,5 +84,17 @@ LeavesFree need p src room result written = IsReport result → 0 < length p + l
 abbrev pub IsStop : ℕ → List ℕ → List ℕ → ℕ → Bool → Option DecoderResult → Type 0
 IsStop need q src room last None = (0 < length src) ⊎ (need ≤ room)
 IsStop need q src room last (Some InputEmpty) = (length src ≡ 0) × (last ≡ true → q ≡ [])
-IsStop need q src room last (Some OutputFull) = (length src ≡ 0) × (0 < length q) × (room < need)
+IsStop need q src room last (Some OutputFull) = (length src ≡ 0) × (0 < length q) × (room < need) × (last ≡ true)
 IsStop need q src room last (Some (Malformed k second)) = ⊥
+
+-- exactly what a step of a call that replaces returns: `out` ends with U+FFFD if the call goes on
+abbrev pub IsExactStep : {A : Type 0} → (ℕ → List A) → ℕ → DecoderState → List ℕ → ℕ → Bool → Option CoderResult → ℕ → List A → DecoderState → Type 0
+IsExactStep {A} encode need old src room last None read out new = (k : ℕ) × (second : ℕ) × (before : List A) × (out ≡ before ++ encode 0xFFFD)
+    × IsExactCall encode need old src room last (Malformed k second) read before new
+IsExactStep encode need old src room last (Some result) read out new = IsExactCall encode need old src room last (ended_by result) read out new
+
+-- some of these steps, which read `read` bytes and wrote `out`: what follows them ends the call
+abbrev pub Continues : {A : Type 0} → (ℕ → List A) → ℕ → DecoderState → DecoderState → List ℕ → ℕ → Bool → ℕ → List A → ℕ → Type 0
+Continues {A} encode need old mid src room last read out replaced = (result : CoderResult) (more : ℕ) (rest : List A) (again : ℕ) (new : DecoderState)
+    → IsExactReplacingCall encode need mid (drop read src) (room - length out) last result more rest again new
+    → IsExactReplacingCall encode need old src room last result (read + more) (out ++ rest) (replaced + again) new

@@ -4,5 +4,8 @@ pub mod Utf16Calls
 pub mod Utf16Steps
 pub mod Marks
 pub mod Decoders
+pub mod ExactCalls
 pub mod DecoderSteps
 pub mod DecoderCalls
+pub mod TextReading
+pub mod MixedDecoderCalls

@@ -6,7 +6,7 @@ use Rattle.std.specs.Str.{all_scalars}
 use Rattle.std.specs.List.{flat_map}
 use Rattle.encoding_text.specs.Prefixes.{WritesPrefix}
 use Rattle.encoding_text.specs.Surrogates.{IsValidUtf16}
-use Rattle.encoding_text.specs.Utf16.{IsHighSurrogate, IsLowSurrogate}
+use Rattle.encoding_text.specs.Utf16.{AreCodeUnits, IsHighSurrogate, IsLowSurrogate}
 use Rattle.encoding_text.specs.Utf16Bytes.{bytes_of_scalars, utf16_bytes}
 use Rattle.encoding_text.specs.declared.utf_16.ByteOrder.{ByteOrder}
 use Rattle.encoding_text.specs.declared.decoder.DecoderResult.{DecoderResult}
@@ -26,6 +26,12 @@ pub record Advances {A : Type 0} (order : ByteOrder) (encode : ℕ → List A) (
 -- the bytes start with a character that needs more than the space that is left
 abbrev pub BeginsTooLong : {A : Type 0} → ByteOrder → (ℕ → List A) → List ℕ → ℕ → Type 0
 BeginsTooLong order encode bs left = (c : ℕ) × (rest : List ℕ) × IsScalar c × (bs ≡ utf16_bytes order (encode_utf16 c) ++ rest) × (left < length (encode c))
+
+-- these are code units, without an unpaired surrogate, and have these bytes
+pub record AreValidUnitsOf (order : ByteOrder) (bytes units : List ℕ) : Type 0 where
+  pub valid : IsValidUtf16 units
+  pub fit : AreCodeUnits units
+  pub spelled : utf16_bytes order units ≡ bytes
 
 -- the units are those of the characters `done`, which are written, and `more`, the first of which needs more than the
 -- space that is left

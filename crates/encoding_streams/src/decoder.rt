@@ -16,6 +16,7 @@ ghost use Rattle.encoding_definitions.specs.Prefixes.{IsLongestPrefix};
 ghost use Rattle.encoding_streams.specs.Marks.{IsUndecided};
 ghost use Rattle.encoding_streams.specs.Decoders.{IsReportingCall, IsReplacingCall, SufficesReporting, SufficesBetweenReports, SufficesReplacing, before_clearing, decoding, queried, max_utf16_length_in, max_utf8_length_in, max_utf8_length_with_replacement_in};
 ghost use Rattle.encoding_streams.specs.DecoderSteps.{LeavesFree};
+ghost use Rattle.encoding_streams.specs.ExactCalls.{IsExactCall, IsExactReplacingCall};
 
 use crate::encoding::{BomHandling, CoderResult, Encoding, begins_mark};
 use crate::utf16_decoder::pending::Pending;
@@ -148,7 +149,7 @@ impl Decoder {
     /// Returns the length in UTF-16 code units of a destination that is large enough for the next `byte_length` bytes,
     /// however they are split into calls, even if U+FFFD is written for each malformed sequence. Let n be the sum of
     /// `byte_length`, the number of pending bytes and one. The length is n, or, if the encoding is UTF-16, half of n, plus
-    /// one. `None` if n exceeds `usize::MAX`.
+    /// one. As long as a mark may decide the encoding, it is the greater of both. `None` if n exceeds `usize::MAX`.
     pub fn max_utf16_buffer_length(&self, byte_length: usize) -> Option<usize>
         ensures { SomeIff result (byte_length + length self.now.pending + 1 ≤ usize.MAX)
             (queried max_utf16_length_in self.now byte_length) }
@@ -160,7 +161,8 @@ impl Decoder {
     /// Returns the length in bytes of a destination that is large enough for the next `byte_length` bytes, however they
     /// are split into calls, even if U+FFFD is written for each malformed sequence. Let n be the sum of `byte_length`, the
     /// number of pending bytes and one. The length is three times n, or, if the encoding is UTF-16, three times half of n,
-    /// plus one. `None` if the length exceeds `usize::MAX`.
+    /// plus one. As long as a mark may decide the encoding, it is the greater of both. `None` if the length exceeds
+    /// `usize::MAX`.
     pub fn max_utf8_buffer_length(&self, byte_length: usize) -> Option<usize>
         ensures { SomeIff result
             (queried max_utf8_length_with_replacement_in self.now byte_length ≤ usize.MAX)
@@ -209,6 +211,8 @@ impl Decoder {
     ) -> (CoderResult, usize, usize, usize)
         ensures call { IsReplacingCall encode_utf16 2 self.old src.now dst.old dst.new last
             result.0 result.1 result.2 result.3 self.new }
+        ensures exact { IsExactReplacingCall encode_utf16 2 self.old src.now (length dst.old) last
+            result.0 result.1 (take result.2 dst.new) result.3 self.new }
 
         // If `src` has at most `byte_length` bytes and `dst` has the length that `max_utf16_buffer_length(byte_length)`
         // returned, the call doesn't return `OutputFull`, and the space left is enough for the rest of these bytes.
@@ -233,6 +237,9 @@ impl Decoder {
     ) -> (CoderResult, usize, usize, usize)
         ensures call { IsReplacingCall encode_utf8 4 self.old src.now dst.old dst.new last
             result.0 result.1 result.2 result.3 self.new }
+        ensures exact { IsExactReplacingCall encode_utf8 4 self.old src.now (length dst.old) last
+            result.0 result.1 (take result.2 dst.new) result.3 self.new }
+        ensures text { IsUtf8 (take result.2 dst.new) }
 
         // If `src` has at most `byte_length` bytes and `dst` has the length that `max_utf8_buffer_length(byte_length)`
         // returned, the call doesn't return `OutputFull`, and the space left is enough for the rest of these bytes.
@@ -256,6 +263,8 @@ impl Decoder {
         ensures call { IsReplacingCall encode_utf8 4 self.old src.now dst.old
             (before_clearing result.2 dst.old dst.new) last
             result.0 result.1 result.2 result.3 self.new }
+        ensures exact { IsExactReplacingCall encode_utf8 4 self.old src.now (length dst.old) last
+            result.0 result.1 (take result.2 dst.new) result.3 self.new }
         ensures unchanged_after { WritesAndClears 0 dst.old dst.new result.2
             (take result.2 dst.new) }
         ensures text { IsUtf8 dst.new }
@@ -284,6 +293,8 @@ impl Decoder {
     ) -> (DecoderResult, usize, usize)
         ensures call { IsReportingCall encode_utf16 2 self.old src.now dst.old dst.new last
             result.0 result.1 result.2 self.new }
+        ensures exact { IsExactCall encode_utf16 2 self.old src.now (length dst.old) last
+            result.0 result.1 (take result.2 dst.new) self.new }
         ensures free { LeavesFree 2 self.old.pending src.now (length dst.old) result.0 result.2 }
 
         // If `src` has at most `byte_length` bytes and `dst` has the length that `max_utf16_buffer_length(byte_length)`
@@ -312,6 +323,9 @@ impl Decoder {
     ) -> (DecoderResult, usize, usize)
         ensures call { IsReportingCall encode_utf8 4 self.old src.now dst.old dst.new last
             result.0 result.1 result.2 self.new }
+        ensures exact { IsExactCall encode_utf8 4 self.old src.now (length dst.old) last
+            result.0 result.1 (take result.2 dst.new) self.new }
+        ensures text { IsUtf8 (take result.2 dst.new) }
         ensures free { LeavesFree 4 self.old.pending src.now (length dst.old) result.0 result.2 }
 
         // If `src` has at most `byte_length` bytes and `dst` has the length that `max_utf8_buffer_length(byte_length)` or
@@ -345,6 +359,8 @@ impl Decoder {
         ensures call { IsReportingCall encode_utf8 4 self.old src.now dst.old
             (before_clearing result.2 dst.old dst.new) last
             result.0 result.1 result.2 self.new }
+        ensures exact { IsExactCall encode_utf8 4 self.old src.now (length dst.old) last
+            result.0 result.1 (take result.2 dst.new) self.new }
         ensures unchanged_after { WritesAndClears 0 dst.old dst.new result.2
             (take result.2 dst.new) }
         ensures text { IsUtf8 dst.new }

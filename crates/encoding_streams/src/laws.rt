@@ -16,6 +16,9 @@ ghost use Rattle.encoding_streams.specs.Utf16Decoding.{DecodeUtf16Step};
 ghost use Rattle.encoding_streams.specs.Utf16Calls.{YieldUtf16Parts};
 ghost use Rattle.encoding_streams.specs.Decoders.{DecoderState};
 ghost use Rattle.encoding_streams.specs.DecoderCalls.{Made, AreMade, WriteTheText};
+ghost use Rattle.encoding_streams.specs.ExactCalls.{IsExactCall, IsExactReplacingCall};
+ghost use Rattle.encoding_streams.specs.MixedDecoderCalls.{Mixed, AreMixed, YieldTheStream};
+ghost use Rattle.encoding_streams.specs.declared.encoding.CoderResult.{CoderResult};
 
 /// In each byte order, bytes have exactly one list of parts. The bytes of the parts, joined, are these bytes. The parts
 /// of the bytes of scalar values are these characters. With U+FFFD for each malformed sequence, the parts of the bytes of
@@ -83,4 +86,40 @@ pub fn law_decoder_calls()
     ensures utf8 { (state : DecoderState) (stream : List ℕ) (calls : List (Made ℕ))
         → AreMade encode_utf8 4 state stream calls
         → WriteTheText encode_utf8 state stream calls }
+{}
+
+/// For a given decoder, source, space and `last` a call has at most one result: what ended it, how many bytes it read,
+/// what it wrote, and the decoder after it. The same holds of a call that replaces malformed sequences, with their number.
+/// Encoding Standard, "decode".
+pub fn law_decoder_results()
+    ensures utf16 { (old new other : DecoderState) (src out others : List ℕ) (room read more : ℕ)
+        (last : Bool) (answer outcome : DecoderResult)
+        → IsExactCall encode_utf16 2 old src room last answer read out new
+        → IsExactCall encode_utf16 2 old src room last outcome more others other
+        → (answer ≡ outcome) × (read ≡ more) × (out ≡ others) × (new ≡ other) }
+    ensures utf8 { (old new other : DecoderState) (src out others : List ℕ) (room read more : ℕ)
+        (last : Bool) (answer outcome : DecoderResult)
+        → IsExactCall encode_utf8 4 old src room last answer read out new
+        → IsExactCall encode_utf8 4 old src room last outcome more others other
+        → (answer ≡ outcome) × (read ≡ more) × (out ≡ others) × (new ≡ other) }
+    ensures replacing_utf16 { (old new other : DecoderState) (src out others : List ℕ)
+        (room read more replaced again : ℕ) (last : Bool) (answer outcome : CoderResult)
+        → IsExactReplacingCall encode_utf16 2 old src room last answer read out replaced new
+        → IsExactReplacingCall encode_utf16 2 old src room last outcome more others again other
+        → (answer ≡ outcome) × (read ≡ more) × (out ≡ others) × (replaced ≡ again) × (new ≡ other) }
+    ensures replacing_utf8 { (old new other : DecoderState) (src out others : List ℕ)
+        (room read more replaced again : ℕ) (last : Bool) (answer outcome : CoderResult)
+        → IsExactReplacingCall encode_utf8 4 old src room last answer read out replaced new
+        → IsExactReplacingCall encode_utf8 4 old src room last outcome more others again other
+        → (answer ≡ outcome) × (read ≡ more) × (out ≡ others) × (replaced ≡ again) × (new ≡ other) }
+{}
+
+/// Calls of a decoder of any form may be mixed over one stream, each passed the first of the unread bytes: to UTF-16 or to
+/// UTF-8, and malformed sequences reported or replaced. In sequence they yield the first parts of the stream without its
+/// mark, in any pieces and destinations. Once a call marked last returns `InputEmpty`, they are all parts. Encoding
+/// Standard, "decode".
+pub fn law_mixed_decoder_calls()
+    ensures { (state : DecoderState) (stream : List ℕ) (calls : List Mixed)
+        → AreMixed state stream calls
+        → YieldTheStream state stream calls }
 {}

@@ -1,25 +1,27 @@
 //! The streaming decoder of UTF-16LE and UTF-16BE: Encoding Standard, section 14.2, shared UTF-16 decoder. Its calls have
 //! the form of those of the UTF-8 decoder. The elements of `dst` past those reported as written are unchanged.
 
-mod blocks;
+mod bytes;
 pub(crate) mod code_unit;
+mod paired;
 pub(crate) mod pending;
+mod units;
 mod window;
 
-ghost use Rattle.std.specs.Prelude.{◌≡◌, ◌≢◌, ◌<◌, ◌≤◌, ◌↔◌, ◌⊎◌, ◌+◌, ◌-◌, ◌*◌, [], length, drop, encode_utf8, IsTrue};
+ghost use Rattle.std.specs.Prelude.{◌≡◌, ◌≢◌, ◌<◌, ◌≤◌, ◌↔◌, ◌⊎◌, ◌+◌, ◌-◌, ◌*◌, [], length, take, drop, encode_utf8, IsTrue};
 ghost use Rattle.std.specs.Option.{SomeIff};
 ghost use Rattle.std.specs.Char.Escape.{encode_utf16};
 ghost use Rattle.encoding_text.specs.Decoding.{IsReport, Suffices};
 ghost use Rattle.encoding_streams.specs.Utf16Parts.{IsPendingUtf16};
 ghost use Rattle.encoding_streams.specs.Utf16Decoding.{DecodeUtf16StepInto, SufficesReplacingUtf16, max_utf16_length_from_utf16, max_utf8_length_from_utf16};
-ghost use Rattle.encoding_streams.specs.Utf16Steps.{Advances, BeginsTooLong, Resumes};
+ghost use Rattle.encoding_streams.specs.Utf16Steps.{Advances, Resumes};
 
 use code_unit::CodeUnit;
 use encoding_text::decoder::DecoderResult;
 use encoding_text::utf_16::ByteOrder;
 use pending::Pending;
 use std::marker::Model;
-use window::{First, first_of};
+use window::{First, first_of, is_for_resume};
 
 /// A streaming decoder of UTF-16LE or UTF-16BE, whose input may be split at any byte. Its pending bytes, which it keeps
 /// between calls, are none or the start of a character: a high surrogate, the first byte of a code unit, or both. In
@@ -60,12 +62,15 @@ impl Utf16Decoder {
         self.pending.is_empty()
     }
 
-    /// Returns how many bytes are pending.
-    pub(crate) fn pending_length(&self) -> usize
-        ensures length { result ≡ length self.now.pending }
-        ensures within { result ≤ 3 }
+    /// Returns an array that starts with the pending bytes, and how many they are.
+    #[inline(always)]
+    pub fn pending(&self) -> ([u8; 4], usize)
+        ensures bytes { take result.1 result.0 ≡ self.now.pending }
+        ensures count { result.1 ≡ length self.now.pending }
+        ensures within { result.1 ≤ 3 }
+        ensures pending { IsPendingUtf16 self.now.order self.now.pending }
     {
-        self.pending.len()
+        self.pending.bytes()
     }
 
     /// Returns the length in UTF-16 code units of a destination that is large enough for the next `byte_length` bytes,
@@ -183,17 +188,9 @@ fn decode<U: CodeUnit>(
     let mut read = 0;
     let mut written = 0;
     loop {
-        let (more, extra, full) = convert_neutral(
-            order,
-            pending,
-            &src[read..],
-            &mut dst[written..],
-        );
+        let (more, extra) = convert_neutral(order, pending, &src[read..], &mut dst[written..]);
         read += more;
         written += extra;
-        if full {
-            return (DecoderResult::OutputFull, read, written);
-        }
         if read == src.len() {
             if pending.is_empty() {
                 return (DecoderResult::InputEmpty, read, written);
@@ -209,22 +206,20 @@ fn decode<U: CodeUnit>(
     }
 }
 
-/// Converts as `CodeUnit::convert` does if nothing is pending, and otherwise nothing.
+/// Converts as `CodeUnit::convert` does if nothing is pending. Before what only `resume` takes it converts nothing.
 #[inline(always)]
 fn convert_neutral<U: CodeUnit>(
     order: ByteOrder,
     pending: &Pending,
     src: &[u8],
     dst: &mut [U],
-) -> (usize, usize, bool)
+) -> (usize, usize)
     ensures characters { Advances order U.encode pending.now src.now dst.old dst.new
         result.0 result.1 pending.now }
     ensures none { pending.now ≢ [] → result.0 ≡ 0 }
-    ensures full { IsTrue result.2 → (pending.now ≡ [])
-        × BeginsTooLong order U.encode (drop result.0 src.now) (length dst.old - result.1) }
 {
-    if !pending.is_empty() {
-        return (0, 0, false);
+    if !pending.is_empty() || is_for_resume(order, src) {
+        return (0, 0);
     }
     U::convert(order, src, dst)
 }
@@ -267,7 +262,7 @@ fn resume<U: CodeUnit>(
         }
         First::Incomplete => {
             if !last || count == 0 {
-                *pending = Pending::hold(&window[..count]);
+                *pending = Pending::of(window, count);
                 return (Some(DecoderResult::InputEmpty), src.len(), 0);
             }
             if !src.is_empty() && dst.len() < U::max_units_per_scalar() {

@@ -1,8 +1,11 @@
 //! The decoder over the vectors, with every set of cuts and into every short destination.
 
-use crate::decoder_vectors::{ROWS, Row, row_of};
+use crate::assertions::assert_rows;
+use crate::decoder_vectors::{ROWS, Vector, vector_of};
 use encoding_streams::decoder::Decoder;
 use encoding_streams::encoding::{BomHandling, CoderResult, Encoding};
+use test_support::rows::{Row, Table};
+use test_support::texts::are_all;
 
 /// How many calls a piece takes at most.
 const CALLS: usize = 32;
@@ -34,12 +37,12 @@ impl Chain {
             self.push(*unit);
         }
         self.replaced = self.replaced.saturating_add(replaced);
-        let unchanged = dst.iter().skip(written).all(|unit| *unit == 0x71);
+        let unchanged = are_all(dst.get(written..)?, 0x71);
         unchanged.then_some((read, result == CoderResult::InputEmpty))
     }
 
-    /// Decodes to UTF-8. Returns the number of bytes read, and whether the call ended with `InputEmpty`, or `None` if what
-    /// is written is no text, or more was written.
+    /// Decodes to UTF-8. Returns the number of bytes read, and whether the call ended with `InputEmpty`, or `None` if
+    /// what is written is no text, or more was written.
     fn call_utf8(&mut self, src: &[u8], room: usize, last: bool) -> Option<(usize, bool)> {
         let mut dst = [0x71; 8];
         let space = dst.get_mut(..room)?;
@@ -51,7 +54,7 @@ impl Chain {
             self.push(unit);
         }
         self.replaced = self.replaced.saturating_add(replaced);
-        let unchanged = dst.iter().skip(written).all(|byte| *byte == 0x71);
+        let unchanged = are_all(dst.get(written..)?, 0x71);
         unchanged.then_some((read, result == CoderResult::InputEmpty))
     }
 
@@ -93,15 +96,12 @@ fn new_decoder(encoding: Encoding, bom: BomHandling) -> Decoder {
     }
 }
 
-/// Returns whether the bytes of a row, cut at each index whose bit is set, are decoded to its text, and nothing is pending
-/// then.
-fn decodes_to(row: &Row, cuts: u32, room: usize, to_utf8: bool) -> bool {
-    let (Some(bytes), Some(units)) = (row.bytes.get(..row.length), row.units.get(..row.count))
-    else {
-        return false;
-    };
+/// Returns whether the bytes of a vector, cut at each index whose bit is set, are decoded to its text, and nothing is
+/// pending then.
+fn decodes_to(vector: &Vector, cuts: u32, room: usize, to_utf8: bool) -> bool {
+    let bytes = vector.bytes.as_slice();
     let mut chain = Chain {
-        decoder: new_decoder(row.encoding, row.bom),
+        decoder: new_decoder(vector.encoding, vector.bom),
         units: [0; 8],
         count: 0,
         replaced: 0,
@@ -124,9 +124,9 @@ fn decodes_to(row: &Row, cuts: u32, room: usize, to_utf8: bool) -> bool {
     }
     let (_, pending) = chain.decoder.pending();
     let read = chain.reads(rest, true, room, to_utf8);
-    read && chain.units.get(..chain.count) == Some(units)
-        && chain.replaced == row.replaced
-        && chain.decoder.encoding() == row.decided
+    read && chain.units.get(..chain.count) == Some(vector.units.as_slice())
+        && chain.replaced == vector.replaced
+        && chain.decoder.encoding() == vector.decided
         && chain.decoder.bom_handling() == BomHandling::Off
         && pending <= 3
 }
@@ -140,32 +140,64 @@ fn cut_sets(length: usize) -> u32 {
     sets
 }
 
-/// Returns whether the bytes of each row, with every set of cuts and into destinations of every length below `rooms`, are
-/// decoded to their text.
-fn come_as_text(rooms: usize, to_utf8: bool) -> bool {
-    let mut rows = 0usize;
-    for line in ROWS.lines() {
-        let Some(row) = row_of(line) else {
+/// Every set of cuts, and destinations of every length below `rooms`.
+#[derive(Drop)]
+struct EveryCut {
+    rooms: usize,
+    to_utf8: bool,
+}
+
+impl Table for EveryCut {
+    const ROWS: &'static str = ROWS;
+
+    const COUNT: usize = 216;
+
+    fn holds(&mut self, row: &mut Row<'_>) -> bool {
+        let Some(vector) = vector_of(row) else {
             return false;
         };
-        for cuts in 0..cut_sets(row.length) {
-            for room in 0..rooms {
-                if !decodes_to(&row, cuts, room, to_utf8) {
-                    return false;
-                }
+        let mut holds = true;
+        for cuts in 0..cut_sets(vector.bytes.length) {
+            for room in 0..self.rooms {
+                holds = holds && decodes_to(&vector, cuts, room, self.to_utf8);
             }
         }
-        rows = rows.saturating_add(1);
+        holds
     }
-    rows == 216
 }
 
 #[test]
 fn every_cut_to_utf16(rt: HostRuntime) {
-    assert!(rt; come_as_text(6, false));
+    let (rooms, to_utf8) = (6, false);
+    assert_rows(&rt, &mut EveryCut { rooms, to_utf8 });
 }
 
 #[test]
 fn every_cut_to_utf8(rt: HostRuntime) {
-    assert!(rt; come_as_text(6, true));
+    let (rooms, to_utf8) = (6, true);
+    assert_rows(&rt, &mut EveryCut { rooms, to_utf8 });
+}
+
+/// A character comes out of the call that reads its last byte, also where just this character fits.
+#[test]
+fn holds_nothing_back(rt: HostRuntime) {
+    let mut decoder = Encoding::Utf8.new_decoder_without_bom_handling();
+    let mut text = [0; 1];
+    let result = decoder.decode_to_utf8(b"a", &mut text, false);
+    assert!(rt; result == (CoderResult::InputEmpty, 1, 1, 0));
+    assert!(rt; text == *b"a");
+}
+
+/// With nothing to read a call ends, also if a character is pending and nothing fits.
+#[test]
+fn ends_with_nothing_to_read(rt: HostRuntime) {
+    let mut decoder = Encoding::Utf8.new_decoder_without_bom_handling();
+    let mut text = [0; 4];
+    let result = decoder.decode_to_utf8(b"\xE2\x98", &mut text, false);
+    assert!(rt; result == (CoderResult::InputEmpty, 2, 0, 0));
+    let result = decoder.decode_to_utf8(b"", &mut [], false);
+    assert!(rt; result == (CoderResult::InputEmpty, 0, 0, 0));
+    let result = decoder.decode_to_utf8(b"\x83", &mut text, true);
+    assert!(rt; result == (CoderResult::InputEmpty, 1, 3, 0));
+    assert!(rt; text == *b"\xE2\x98\x83\0");
 }

@@ -1,24 +1,24 @@
 //! Bytes, at most six, and their text for a decoder of each encoding, with each handling of byte order marks. The text
-//! and the number of malformed sequences are those of Python's decoders with an error handler that counts, after the mark
-//! that "decode" of the Encoding Standard removes.
+//! and the number of malformed sequences are those of Python's decoders with an error handler that counts, after the
+//! mark that "decode" of the Encoding Standard removes.
 
 use encoding_streams::encoding::{BomHandling, Encoding};
+use test_support::rows::{Bytes, Row, Units};
 
-/// A row: what the decoder is, the bytes, and their text in UTF-16 with the number of malformed sequences and the encoding.
+/// What a row has: what the decoder is, the bytes, and their text in UTF-16 with the number of malformed sequences and
+/// the encoding.
 #[derive(Drop)]
-pub struct Row {
+pub struct Vector {
     pub bom: BomHandling,
     pub encoding: Encoding,
-    pub bytes: [u8; 6],
-    pub length: usize,
+    pub bytes: Bytes,
     pub decided: Encoding,
     pub replaced: usize,
-    pub units: [u16; 8],
-    pub count: usize,
+    pub units: Units,
 }
 
-/// The handling of marks and the encoding, the bytes, the encoding that decides with the number of malformed sequences, and
-/// the code units.
+/// The handling of marks and the encoding, the bytes, the encoding that decides with the number of malformed
+/// sequences, and the code units.
 pub const ROWS: &str = "\
 sniff utf8 | | utf8 0 |
 sniff utf8 | EF | utf8 1 | FFFD
@@ -257,49 +257,17 @@ fn bom_of(word: &str) -> Option<BomHandling> {
     }
 }
 
-/// Returns what a line has.
-pub fn row_of(line: &str) -> Option<Row> {
-    let mut row = Row {
-        bom: BomHandling::Off,
-        encoding: Encoding::Utf8,
-        bytes: [0; 6],
-        length: 0,
-        decided: Encoding::Utf8,
-        replaced: 0,
-        units: [0; 8],
-        count: 0,
-    };
-    let mut column = 0usize;
-    let mut place = 0usize;
-    for word in line.split_whitespace() {
-        if word == "|" {
-            column = column.saturating_add(1);
-            place = 0;
-            continue;
-        }
-        match (column, place) {
-            (0, 0) => row.bom = bom_of(word)?,
-            (0, _) => row.encoding = encoding_of(word)?,
-            (1, _) => {
-                let byte = u8::from_str_radix(word, 16).ok()?;
-                if place >= 6 {
-                    return None;
-                }
-                row.bytes[place] = byte;
-                row.length = place.saturating_add(1);
-            }
-            (2, 0) => row.decided = encoding_of(word)?,
-            (2, _) => row.replaced = usize::from_str_radix(word, 10).ok()?,
-            _ => {
-                let unit = u16::from_str_radix(word, 16).ok()?;
-                if place >= 8 {
-                    return None;
-                }
-                row.units[place] = unit;
-                row.count = place.saturating_add(1);
-            }
-        }
-        place = place.saturating_add(1);
-    }
-    Some(row)
+/// Returns what a row has.
+pub fn vector_of(row: &mut Row<'_>) -> Option<Vector> {
+    let (bom, encoding) = row.word().split_once(' ')?;
+    let bytes = row.bytes();
+    let (decided, replaced) = row.word().split_once(' ')?;
+    Some(Vector {
+        bom: bom_of(bom)?,
+        encoding: encoding_of(encoding)?,
+        bytes,
+        decided: encoding_of(decided)?,
+        replaced: row.number_of(replaced),
+        units: row.units(),
+    })
 }

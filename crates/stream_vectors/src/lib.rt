@@ -1,7 +1,9 @@
-//! Tests only: the decoders of `encoding_streams` over vectors, with every set of cuts and into every short destination.
-//! The search of a stream for malformed sequences, and decoding into the start of a text.
+//! Tests only: the decoders of `encoding_streams` over vectors, with every set of cuts and into every short
+//! destination. The search of a stream for malformed sequences, and decoding into the start of a text.
 #![tactic(auto)]
 
+#[cfg(test)]
+mod assertions;
 #[cfg(test)]
 mod decoder_streams;
 #[cfg(test)]

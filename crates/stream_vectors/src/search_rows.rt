@@ -1,5 +1,6 @@
-//! The search of a stream: the offset, the length and the kind of each malformed sequence, cut at each byte, into arrays of
-//! each length. The offsets and lengths are those that Python's `bytes.decode` reports, the kinds those of Table 3-7.
+//! The search of a stream: the offset, the length and the kind of each malformed sequence, cut at each byte, into
+//! arrays of each length. The offsets and lengths are those that Python's `bytes.decode` reports, the kinds those of
+//! Table 3-7.
 
 use encoding_runs::malformed::Malformation;
 use encoding_runs::search::{MalformedSearch, SearchPiece, StreamMalformation, search_block};
@@ -93,20 +94,28 @@ fn search_piece(
     Err(Fail::from("the search doesn't end"))
 }
 
+/// Returns what a search of a stream finds that is cut at this index, with calls into arrays of this length.
+fn found(alloc: Global, bytes: &[u8], cut: usize, room: usize) -> Result<String, Fail> {
+    let (first, second) = bytes.split_at_checked(cut).ok_or("no such cut")?;
+    let mut all = String::new(alloc);
+    let mut search = MalformedSearch::new();
+    search_piece(&mut search, first, room, false, &mut all)?;
+    search_piece(&mut search, second, room, true, &mut all)?;
+    if search.in_neutral_state() && search.offset() == bytes.len() as u64 {
+        Ok(all)
+    } else {
+        Err(Fail::from("the search isn't at the end"))
+    }
+}
+
 #[test]
 fn rows_hold(rt: HostRuntime) -> Result<(), Fail> {
     let mut count = 0u32;
     for (bytes, expected) in &ROWS {
         for cut in 0..=bytes.len() {
             for room in 1..=LONGEST {
-                let (first, second) = bytes.split_at_checked(cut).ok_or("no such cut")?;
-                let mut all = String::new(rt.alloc());
-                let mut search = MalformedSearch::new();
-                search_piece(&mut search, first, room, false, &mut all)?;
-                search_piece(&mut search, second, room, true, &mut all)?;
+                let all = found(rt.alloc(), bytes, cut, room)?;
                 assert!(rt; all.as_str() == *expected, "{expected} {cut} {room} {all}");
-                assert!(rt; search.in_neutral_state());
-                assert!(rt; search.offset() == bytes.len() as u64);
             }
         }
         count = count.saturating_add(1);

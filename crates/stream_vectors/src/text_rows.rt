@@ -1,5 +1,5 @@
-//! Decoding into the start of a text, by rows: what the text is after the calls. The characters are those of the Encoding
-//! Standard's decoders, and the zeros are set by hand.
+//! Decoding into the start of a text, by rows: what the text is after the calls. The characters are those of the
+//! Encoding Standard's decoders, and the zeros are set by hand.
 
 ghost use Rattle.std.specs.Prelude.{◌↔◌, IsTrue};
 ghost use Rattle.std.specs.Str.{IsUtf8};
@@ -7,7 +7,6 @@ ghost use Rattle.std.specs.Str.{IsUtf8};
 use encoding_streams::decoder::Decoder;
 use encoding_streams::encoding::{CoderResult, Encoding};
 use encoding_text::decoder::DecoderResult;
-use std::test::Fail;
 
 /// A stream, the text before it is decoded, how many bytes are written and how many malformed sequences are replaced,
 /// and the text after that.
@@ -73,30 +72,46 @@ fn reported(
     is_text(dst).then_some(result)
 }
 
+/// Decodes a stream cut at this index, and returns whether the text is `after` then, and the numbers of bytes written
+/// and of malformed sequences replaced are `counts`. Returns `None` if it can't be cut there, or isn't decoded to a
+/// text.
+fn decodes_to(
+    source: &[u8],
+    before: &[u8],
+    counts: (usize, usize),
+    after: &[u8],
+    cut: usize,
+) -> Option<bool> {
+    let (first, second) = source.split_at_checked(cut)?;
+    let mut space = [b'q'; 8];
+    let text = space.get_mut(..before.len())?;
+    text.copy_from_slice(before);
+    let mut decoder = Encoding::Utf8.new_decoder();
+    let one = replaced(&mut decoder, first, text, false)?;
+    let rest = text.get_mut(one.2..)?;
+    let two = replaced(&mut decoder, second, rest, true)?;
+    Some(
+        one.0 == CoderResult::InputEmpty
+            && one.1 == cut
+            && two.0 == CoderResult::InputEmpty
+            && two.1 == second.len()
+            && (one.2.saturating_add(two.2), one.3.saturating_add(two.3)) == counts
+            && &*text == after,
+    )
+}
+
 /// Each row, whole and cut at each byte.
 #[test]
-fn rows_hold(rt: HostRuntime) -> Result<(), Fail> {
+fn rows_hold(rt: HostRuntime) {
     let mut count = 0u32;
     for (source, before, written, malformed, after) in &ROWS {
         for cut in 0..=source.len() {
-            let (first, second) = source.split_at_checked(cut).ok_or("no such cut")?;
-            let mut space = [b'q'; 8];
-            let text = space.get_mut(..before.len()).ok_or("too long")?;
-            text.copy_from_slice(before);
-            let mut decoder = Encoding::Utf8.new_decoder();
-            let one = replaced(&mut decoder, first, text, false).ok_or("no text")?;
-            let rest = text.get_mut(one.2..).ok_or("too many bytes are written")?;
-            let two = replaced(&mut decoder, second, rest, true).ok_or("no text")?;
-            assert!(rt; one.0 == CoderResult::InputEmpty && one.1 == cut);
-            assert!(rt; two.0 == CoderResult::InputEmpty && two.1 == second.len());
-            assert!(rt; one.2.saturating_add(two.2) == *written, "{cut}");
-            assert!(rt; one.3.saturating_add(two.3) == *malformed, "{cut}");
-            assert!(rt; &*text == *after, "{cut}");
+            let holds = decodes_to(source, before, (*written, *malformed), after, cut);
+            assert!(rt; holds == Some(true), "row {count}, {cut}");
         }
         count = count.saturating_add(1);
     }
     assert!(rt; count == 7);
-    Ok(())
 }
 
 #[test]

@@ -1,9 +1,13 @@
 //! The UTF-16 decoder over the vectors, with every set of cuts and into every short destination; and its queries.
 
-use crate::utf16_vectors::{ROWS, row_of};
+use crate::assertions::assert_rows;
+use crate::utf16_vectors::{ROWS, parts_of};
 use encoding_streams::utf16_decoder::Utf16Decoder;
 use encoding_text::decoder::DecoderResult;
 use encoding_text::utf_16::ByteOrder;
+use std::process::Abort;
+use test_support::rows::{Row, Table};
+use test_support::texts::are_all;
 
 /// How many calls a piece takes at most.
 const CALLS: usize = 32;
@@ -41,7 +45,7 @@ impl Chain {
         for unit in char::decode_utf16(dst.get(..written)?.iter().copied()) {
             self.push(u32::from(unit.ok()?));
         }
-        let unchanged = dst.iter().skip(written).all(|unit| *unit == 0x71);
+        let unchanged = are_all(dst.get(written..)?, 0x71);
         unchanged.then_some((read, self.ends(&result)))
     }
 
@@ -54,7 +58,7 @@ impl Chain {
         for character in std::str::from_utf8(dst.get(..written)?).ok()?.chars() {
             self.push(u32::from(character));
         }
-        let unchanged = dst.iter().skip(written).all(|byte| *byte == 0x71);
+        let unchanged = are_all(dst.get(written..)?, 0x71);
         unchanged.then_some((read, self.ends(&result)))
     }
 
@@ -132,52 +136,69 @@ fn cut_sets(bytes: &[u8]) -> u32 {
     sets
 }
 
-/// Returns whether the bytes of each row, with every set of cuts and into destinations of every length below `rooms`, are
-/// decoded to their parts.
-fn come_in_parts(order: ByteOrder, rooms: usize, to_utf8: bool) -> bool {
-    let mut rows = 0usize;
-    for line in ROWS.lines() {
-        let Some(row) = row_of(line) else {
+/// Every set of cuts, and destinations of every length below `rooms`.
+#[derive(Drop)]
+struct EveryCut {
+    order: ByteOrder,
+    rooms: usize,
+    to_utf8: bool,
+}
+
+impl Table for EveryCut {
+    const ROWS: &'static str = ROWS;
+
+    const COUNT: usize = 168;
+
+    fn holds(&mut self, row: &mut Row<'_>) -> bool {
+        let (little, big) = (row.bytes(), row.bytes());
+        let bytes = match self.order {
+            ByteOrder::LittleEndian => little.as_slice(),
+            ByteOrder::BigEndian => big.as_slice(),
+        };
+        let Some(all) = parts_of(row) else {
             return false;
         };
-        let whole = match order {
-            ByteOrder::LittleEndian => row.little,
-            ByteOrder::BigEndian => row.big,
-        };
-        let (Some(bytes), Some(parts)) = (whole.get(..row.length), row.parts.get(..row.count))
-        else {
-            return false;
-        };
+        let parts = all.parts.get(..all.count).unwrap_or_default();
+        let mut holds = true;
         for cuts in 0..cut_sets(bytes) {
-            for room in 0..rooms {
-                if !decodes_to(order, bytes, cuts, room, to_utf8, parts) {
-                    return false;
-                }
+            for room in 0..self.rooms {
+                holds = holds && decodes_to(self.order, bytes, cuts, room, self.to_utf8, parts);
             }
         }
-        rows = rows.saturating_add(1);
+        holds
     }
-    rows == 168
+}
+
+/// Asserts that they are decoded to their parts in this byte order.
+fn assert_every_cut(rt: &impl Abort, order: ByteOrder, rooms: usize, to_utf8: bool) {
+    assert_rows(
+        rt,
+        &mut EveryCut {
+            order,
+            rooms,
+            to_utf8,
+        },
+    );
 }
 
 #[test]
 fn every_cut_of_utf16le_to_utf16(rt: HostRuntime) {
-    assert!(rt; come_in_parts(ByteOrder::LittleEndian, 3, false));
+    assert_every_cut(&rt, ByteOrder::LittleEndian, 3, false);
 }
 
 #[test]
 fn every_cut_of_utf16be_to_utf16(rt: HostRuntime) {
-    assert!(rt; come_in_parts(ByteOrder::BigEndian, 3, false));
+    assert_every_cut(&rt, ByteOrder::BigEndian, 3, false);
 }
 
 #[test]
 fn every_cut_of_utf16le_to_utf8(rt: HostRuntime) {
-    assert!(rt; come_in_parts(ByteOrder::LittleEndian, 5, true));
+    assert_every_cut(&rt, ByteOrder::LittleEndian, 5, true);
 }
 
 #[test]
 fn every_cut_of_utf16be_to_utf8(rt: HostRuntime) {
-    assert!(rt; come_in_parts(ByteOrder::BigEndian, 5, true));
+    assert_every_cut(&rt, ByteOrder::BigEndian, 5, true);
 }
 
 /// Returns whether a high surrogate and an odd byte that stay pending are reported where the next byte shows it: two
@@ -206,7 +227,8 @@ fn ends_once() -> bool {
         && decoder.decode_to_utf8_raw(&[], &mut [], true) == (DecoderResult::InputEmpty, 0, 0)
 }
 
-/// Returns whether the queries answer as those of the crate `encoding_rs` do, with nothing and with three bytes pending.
+/// Returns whether the queries answer as those of the crate `encoding_rs` do, with nothing and with three bytes
+/// pending.
 fn queries_count_pending_bytes() -> bool {
     let mut decoder = Utf16Decoder::new(ByteOrder::LittleEndian);
     decoder.max_utf16_buffer_length(10) == Some(6)

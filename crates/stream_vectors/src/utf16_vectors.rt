@@ -1,14 +1,12 @@
 //! Bytes of UTF-16LE and of UTF-16BE, at most six, and their parts: all lists of one to three code units of `0061`,
-//! `20AC`, `D83D` and `DC69`, each whole and without its last byte. The parts are those of Python's decoders of both byte
-//! orders, with an error handler that notes the length of each error.
+//! `20AC`, `D83D` and `DC69`, each whole and without its last byte. The parts are those of Python's decoders of both
+//! byte orders, with an error handler that notes the length of each error.
 
-/// A row: the bytes in each byte order, how many they are, and their parts with the number of these. A part is a scalar
-/// value, or `0x20_0000` plus the length of a malformed sequence.
+use test_support::rows::Row;
+
+/// The parts of a row: scalar values, or `0x20_0000` plus the length of a malformed sequence.
 #[derive(Drop)]
-pub struct Row {
-    pub little: [u8; 6],
-    pub big: [u8; 6],
-    pub length: usize,
+pub struct Parts {
     pub parts: [u32; 8],
     pub count: usize,
 }
@@ -195,43 +193,14 @@ fn part_of(word: &str) -> Option<u32> {
     }
 }
 
-/// Returns what a line has.
-pub fn row_of(line: &str) -> Option<Row> {
-    let mut row = Row {
-        little: [0; 6],
-        big: [0; 6],
-        length: 0,
-        parts: [0; 8],
-        count: 0,
-    };
-    let mut column = 0usize;
-    let mut place = 0usize;
-    for word in line.split_whitespace() {
-        if word == "|" {
-            column = column.saturating_add(1);
-            place = 0;
-            continue;
-        }
-        if column == 2 {
-            let part = part_of(word)?;
-            if place >= 8 {
-                return None;
-            }
-            row.parts[place] = part;
-            row.count = place.saturating_add(1);
-        } else {
-            let byte = u8::from_str_radix(word, 16).ok()?;
-            if place >= 6 {
-                return None;
-            }
-            if column == 0 {
-                row.little[place] = byte;
-            } else {
-                row.big[place] = byte;
-            }
-            row.length = place.saturating_add(1);
-        }
-        place = place.saturating_add(1);
+/// Returns the parts that the next field of a row names, or `None` if one is misspelt or there are more than eight.
+pub fn parts_of(row: &mut Row<'_>) -> Option<Parts> {
+    let mut parts = [0; 8];
+    let mut count = 0usize;
+    for word in row.word().split_whitespace() {
+        let part = part_of(word)?;
+        *parts.get_mut(count)? = part;
+        count = count.saturating_add(1);
     }
-    Some(row)
+    Some(Parts { parts, count })
 }

@@ -1,9 +1,10 @@
 //! The decoders of one encoding each, as one.
-ghost use Rattle.std.specs.Prelude.{◌≡◌, ◌↔◌, ℕ, ◌+◌, ◌<◌, ◌≤◌, [], List, length, IsTrue};
+ghost use Rattle.std.specs.Prelude.{◌≡◌, ◌↔◌, ℕ, ◌+◌, ◌<◌, ◌≤◌, [], List, length, take, IsTrue};
 ghost use Rattle.encoding_definitions.specs.Prefixes.{WritesPrefix};
 ghost use Rattle.encoding_streams.specs.Decoders.{IsReportingCall, SufficesReporting, SufficesBetweenReports, decoding, max_utf16_length_in, max_utf8_length_in, max_utf8_length_with_replacement_in};
 ghost use Rattle.encoding_streams.specs.declared.encoding.Encoding.{Encoding};
 ghost use Rattle.encoding_streams.specs.DecoderSteps.{state_of};
+ghost use Rattle.encoding_streams.specs.ExactCalls.{StepIn};
 
 use crate::encoding::Encoding;
 use crate::utf16_decoder::Utf16Decoder;
@@ -17,21 +18,6 @@ use encoding_text::utf_16::ByteOrder;
 pub(crate) enum Inner {
     OfUtf8(Utf8Decoder),
     OfUtf16(Utf16Decoder),
-}
-
-/// Returns the number of pending bytes.
-#[tactic(auto, using(encoding_runs::proofs::RepairLemmas::pending_length))]
-fn pending_length(decoder: &Utf8Decoder) -> usize
-    ensures length { result ≡ length decoder.now }
-    ensures within { result ≤ 3 }
-{
-    if decoder.in_neutral_state() {
-        return 0;
-    }
-    match decoder.max_utf16_buffer_length(0) {
-        Some(room) => room - 1,
-        None => 0,
-    }
 }
 
 /// Writes code units at the start of `dst`.
@@ -73,8 +59,21 @@ impl Inner {
         ensures within { result ≤ 3 }
     {
         match self {
-            Inner::OfUtf8(decoder) => pending_length(decoder),
-            Inner::OfUtf16(decoder) => decoder.pending_length(),
+            Inner::OfUtf8(decoder) => decoder.pending().1,
+            Inner::OfUtf16(decoder) => decoder.pending().1,
+        }
+    }
+
+    /// Returns an array that starts with the pending bytes, and how many they are.
+    #[inline(always)]
+    pub(crate) fn pending(&self) -> ([u8; 4], usize)
+        ensures bytes { take result.1 result.0 ≡ (state_of self.now).pending }
+        ensures count { result.1 ≡ length (state_of self.now).pending }
+        ensures within { result.1 ≤ 3 }
+    {
+        match self {
+            Inner::OfUtf8(decoder) => decoder.pending(),
+            Inner::OfUtf16(decoder) => decoder.pending(),
         }
     }
 }
@@ -113,6 +112,10 @@ pub(crate) trait Output: CodeUnit {
         ensures call { IsReportingCall Self.encode Self.need
             (state_of decoder.old) src.now dst.old dst.new last
             result.0 result.1 result.2 (state_of decoder.new) }
+        ensures step { StepIn Self.encode Self.need
+            (state_of decoder.old).encoding (state_of decoder.old).pending
+            src.now (length dst.old) last result.0 result.1 (take result.2 dst.new)
+            (state_of decoder.new).pending }
         ensures quiet { length src.now ≡ 0 → result.2 ≡ 0 }
         ensures suffices { SufficesReporting query (state_of decoder.old) src.now
             (length dst.old) last

@@ -1,8 +1,9 @@
 //! Calls that write U+FFFD for each malformed sequence.
-ghost use Rattle.std.specs.Prelude.{◌≤◌, length};
+ghost use Rattle.std.specs.Prelude.{◌≤◌, length, take};
 ghost use Rattle.encoding_streams.specs.Marks.{IsUndecided};
 ghost use Rattle.encoding_streams.specs.Decoders.{IsReplacingCall, SufficesReplacing};
-ghost use Rattle.encoding_streams.specs.DecoderSteps.{IsReplacingStep, shown};
+ghost use Rattle.encoding_streams.specs.DecoderSteps.{IsExactStep, IsReplacingStep, shown};
+ghost use Rattle.encoding_streams.specs.ExactCalls.{IsExactReplacingCall};
 
 use super::inner::Output;
 use super::state::{State, decode};
@@ -23,6 +24,8 @@ fn replace_one<U: Output>(
     ensures step { IsReplacingStep U.encode U.need U.replacing
         (shown state.old) src.now dst.old dst.new
         last result.0 result.1 result.2 (shown state.new) }
+    ensures exact { IsExactStep U.encode U.need (shown state.old) src.now (length dst.old) last
+        result.0 result.1 (take result.2 dst.new) (shown state.new) }
 {
     let replacement = U::replacement_length();
     let (result, read, written) = decode::<U>(state, src, dst, last);
@@ -48,6 +51,9 @@ fn replace_all<U: Output>(
     ensures undecided { IsUndecided state.new.bom state.new.encoding state.new.pending }
     ensures call { IsReplacingCall U.encode U.need (shown state.old) src.now dst.old dst.new last
         result.0 result.1 result.2 result.3 (shown state.new) }
+    ensures exact { IsExactReplacingCall U.encode U.need (shown state.old) src.now
+        (length dst.old) last result.0 result.1 (take result.2 dst.new) result.3
+        (shown state.new) }
     ensures suffices { SufficesReplacing U.replacing (shown state.old) src.now (length dst.old) last
         result.0 result.1 result.2 (shown state.new) }
     ensures few { result.3 ≤ result.2 }
@@ -85,6 +91,9 @@ pub(super) fn replace<U: Output>(
     ensures undecided { IsUndecided state.new.bom state.new.encoding state.new.pending }
     ensures call { IsReplacingCall U.encode U.need (shown state.old) src.now dst.old dst.new last
         result.0 result.1 result.2 result.3 (shown state.new) }
+    ensures exact { IsExactReplacingCall U.encode U.need (shown state.old) src.now
+        (length dst.old) last result.0 result.1 (take result.2 dst.new) result.3
+        (shown state.new) }
     ensures suffices { SufficesReplacing U.replacing (shown state.old) src.now (length dst.old) last
         result.0 result.1 result.2 (shown state.new) }
 {

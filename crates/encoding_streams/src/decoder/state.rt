@@ -1,8 +1,9 @@
 //! What a decoder keeps between calls, and its calls that report malformed sequences.
-ghost use Rattle.std.specs.Prelude.{◌≢◌, ◌⊎◌, ◌-◌, false, ◌≡◌, ◌↔◌, ℕ, ◌<◌, ◌≤◌, true, List, [], ◌++◌, length, IsTrue};
+ghost use Rattle.std.specs.Prelude.{take, ◌≢◌, ◌⊎◌, ◌-◌, false, ◌≡◌, ◌↔◌, ℕ, ◌<◌, ◌≤◌, true, List, [], ◌++◌, length, IsTrue};
 ghost use Rattle.encoding_streams.specs.Marks.{IsUndecided};
 ghost use Rattle.encoding_streams.specs.Decoders.{decoding};
-ghost use Rattle.encoding_streams.specs.DecoderSteps.{IsSniffed, IsStop, LeavesFree, Reports, reported_with, shown, state_of};
+ghost use Rattle.encoding_streams.specs.DecoderSteps.{IsSniffed, IsStop, LeavesFree, Reports, shown, state_of};
+ghost use Rattle.encoding_streams.specs.ExactCalls.{Decodes, IsExactCall, IsIdle, reported_with};
 
 use super::inner::{Inner, Output};
 use super::is_utf8;
@@ -78,15 +79,13 @@ fn is_at_end(bom: BomHandling, sniffed: usize, length: usize) -> bool
     sniffed > 0 && sniffed == length
 }
 
-/// Returns what is pending of a decoder: the last of the bytes before its call followed by those that it read.
+/// Returns what is pending of a decoder.
 #[inline(always)]
-fn kept(inner: &Inner, before: &[u8], read: &[u8]) -> Pending
-    requires before { length before.now ≤ 3 }
-    requires keeps { (front : List ℕ)
-        × (before.now ++ read.now ≡ front ++ (state_of inner.now).pending) }
+fn kept(inner: &Inner) -> Pending
     ensures { result ≡ (state_of inner.now).pending }
 {
-    Pending::suffix_of_both(before, read, inner.pending_length())
+    let (bytes, count) = inner.pending();
+    Pending::hold(&bytes[..count])
 }
 
 /// Returns whether all of the source was read.
@@ -95,6 +94,15 @@ fn is_all_read(ended: &DecoderResult) -> bool
     ensures { IsTrue result ↔ (ended.now ≡ DecoderResult.InputEmpty) }
 {
     matches!(ended, DecoderResult::InputEmpty)
+}
+
+/// Returns whether no bytes come, and more may follow.
+#[inline(always)]
+fn is_idle(src: &[u8], last: bool) -> bool
+    ensures yes { result ≡ true → IsIdle src.now last }
+    ensures no { result ≡ false → IsIdle src.now last → ⊥ }
+{
+    src.is_empty() && !last
 }
 
 /// Returns the result of a call that didn't read all, if `rest` bytes are pending after it.
@@ -140,11 +148,13 @@ fn decode_neutral<U: Output>(
     ensures reports { Reports U.encode U.need U.query U.replacing
         (decoding state.old.encoding state.old.pending) src.now dst.old dst.new last
         result.0 result.1 result.2 (decoding state.old.encoding state.new.pending) }
+    ensures decodes { Decodes U.encode U.need state.old.encoding state.old.pending src.now
+        (length dst.old) last result.0 result.1 (take result.2 dst.new) state.new.pending }
     ensures free { LeavesFree U.need state.old.pending src.now (length dst.old) result.0 result.2 }
 {
     let mut inner = Inner::new(state.encoding);
     let (result, read, written) = U::decode(&mut inner, src, dst, last);
-    state.pending = kept(&inner, &[], &src[..read]);
+    state.pending = kept(&inner);
     (result, read, written)
 }
 
@@ -162,6 +172,8 @@ fn decode_neutral_utf8<U: Output>(
     ensures reports { Reports U.encode U.need U.query U.replacing
         (decoding state.old.encoding state.old.pending) src.now dst.old dst.new last
         result.0 result.1 result.2 (decoding state.old.encoding state.new.pending) }
+    ensures decodes { Decodes U.encode U.need state.old.encoding state.old.pending src.now
+        (length dst.old) last result.0 result.1 (take result.2 dst.new) state.new.pending }
     ensures free { LeavesFree U.need state.old.pending src.now (length dst.old) result.0 result.2 }
 {
     let mut inner = Inner::new(Encoding::Utf8);
@@ -169,7 +181,7 @@ fn decode_neutral_utf8<U: Output>(
     if inner.in_neutral_state() {
         return (result, read, written);
     }
-    state.pending = kept(&inner, &[], &src[..read]);
+    state.pending = kept(&inner);
     (result, read, written)
 }
 
@@ -186,9 +198,15 @@ fn decode_pending<U: Output>(
     ensures reports { Reports U.encode U.need U.query U.replacing
         (decoding state.old.encoding state.old.pending) src.now dst.old dst.new last
         result.0 result.1 result.2 (decoding state.old.encoding state.new.pending) }
+    ensures decodes { Decodes U.encode U.need state.old.encoding state.old.pending src.now
+        (length dst.old) last result.0 result.1 (take result.2 dst.new) state.new.pending }
     ensures free { LeavesFree U.need state.old.pending src.now (length dst.old) result.0 result.2 }
 {
     let _length = U::replacement_length();
+    let _pending = state.pending.len();
+    if is_idle(src, last) {
+        return (DecoderResult::InputEmpty, 0, 0);
+    }
     let mut inner = Inner::new(state.encoding);
     let (held, count) = state.pending.bytes();
     let held = &held[..count];
@@ -199,11 +217,11 @@ fn decode_pending<U: Output>(
         return (with_rest(result, rest), 0, written);
     }
     if let Some(result) = stop::<U>(&inner, src, dst.len() - written, last) {
-        state.pending = kept(&inner, held, &[]);
+        state.pending = kept(&inner);
         return (result, 0, written);
     }
     let (result, read, more) = U::decode(&mut inner, src, &mut dst[written..], last);
-    state.pending = kept(&inner, held, &src[..read]);
+    state.pending = kept(&inner);
     (result, read, written + more)
 }
 
@@ -219,6 +237,8 @@ fn decode_decided<U: Output>(
     ensures reports { Reports U.encode U.need U.query U.replacing
         (decoding state.old.encoding state.old.pending) src.now dst.old dst.new last
         result.0 result.1 result.2 (decoding state.old.encoding state.new.pending) }
+    ensures decodes { Decodes U.encode U.need state.old.encoding state.old.pending src.now
+        (length dst.old) last result.0 result.1 (take result.2 dst.new) state.new.pending }
     ensures free { LeavesFree U.need state.old.pending src.now (length dst.old) result.0 result.2 }
 {
     if state.pending.is_empty() {
@@ -239,6 +259,8 @@ fn decode_any<U: Output>(
     ensures undecided { IsUndecided state.new.bom state.new.encoding state.new.pending }
     ensures reports { Reports U.encode U.need U.query U.replacing (shown state.old) src.now
         dst.old dst.new last result.0 result.1 result.2 (shown state.new) }
+    ensures exact { IsExactCall U.encode U.need (shown state.old) src.now (length dst.old) last
+        result.0 result.1 (take result.2 dst.new) (shown state.new) }
     ensures free { LeavesFree U.need state.old.pending src.now (length dst.old) result.0 result.2 }
 {
     let _length = U::replacement_length();
@@ -273,6 +295,8 @@ pub(crate) fn decode<U: Output>(
     ensures undecided { IsUndecided state.new.bom state.new.encoding state.new.pending }
     ensures reports { Reports U.encode U.need U.query U.replacing (shown state.old) src.now
         dst.old dst.new last result.0 result.1 result.2 (shown state.new) }
+    ensures exact { IsExactCall U.encode U.need (shown state.old) src.now (length dst.old) last
+        result.0 result.1 (take result.2 dst.new) (shown state.new) }
     ensures free { LeavesFree U.need state.old.pending src.now (length dst.old) result.0 result.2 }
 {
     if is_plain(state) {

@@ -1,13 +1,14 @@
 //! What a decoder writes: code units of UTF-16, or bytes of UTF-8.
-ghost use Rattle.std.specs.Prelude.{◌≡◌, ℕ, ◌≤◌, ◌-◌, List, [], length, drop, encode_utf8, IsTrue};
+ghost use Rattle.std.specs.Prelude.{◌≡◌, ℕ, ◌≤◌, List, [], length, encode_utf8};
 ghost use Rattle.std.specs.Char.{IsScalar};
 ghost use Rattle.std.specs.Char.Escape.{encode_utf16};
 ghost use Rattle.encoding_text.specs.Surrogates.{IsValidUtf16};
-ghost use Rattle.encoding_streams.specs.Utf16Steps.{Advances, BeginsTooLong, WritesUnits};
+ghost use Rattle.encoding_streams.specs.Utf16Steps.{Advances, WritesUnits};
 
-use super::blocks::{convert_by_length, write_units};
+use super::bytes::convert_bytes;
+use super::units::{convert_units, write_units};
 use encoding_text::mem::convert_utf16_to_utf8_partial;
-use encoding_text::utf_16::{ByteOrder, convert_utf16_bytes_to_utf8_up_to_invalid};
+use encoding_text::utf_16::ByteOrder;
 
 /// A code unit of the output.
 pub(crate) trait CodeUnit: Copy {
@@ -23,12 +24,9 @@ pub(crate) trait CodeUnit: Copy {
         ensures holds_any { (c : ℕ) → IsScalar c → length (encode c) ≤ need };
 
     /// Converts the first characters of UTF-16LE or UTF-16BE, up to the first that doesn't fit into `dst`, or before an unpaired
-    /// surrogate or the end. Returns how many bytes it read, how many code units it wrote, and whether it is known that the next
-    /// character doesn't fit.
-    fn convert(order: ByteOrder, src: &[u8], dst: &mut [Self]) -> (usize, usize, bool)
-        ensures characters { Advances order encode [] src.now dst.old dst.new result.0 result.1 [] }
-        ensures full { IsTrue result.2 → BeginsTooLong order encode (drop result.0 src.now)
-            (length dst.old - result.1) };
+    /// surrogate or the end. Returns how many bytes it read and how many code units it wrote.
+    fn convert(order: ByteOrder, src: &[u8], dst: &mut [Self]) -> (usize, usize)
+        ensures { Advances order encode [] src.now dst.old dst.new result.0 result.1 [] };
 
     /// Writes the first characters of `units`, as many as fit into `dst`. Returns how many code units it read and wrote.
     fn write(units: &[u16], dst: &mut [Self]) -> (usize, usize)
@@ -45,8 +43,8 @@ impl CodeUnit for u16 {
         2
     }
 
-    fn convert(order: ByteOrder, src: &[u8], dst: &mut [u16]) -> (usize, usize, bool) {
-        convert_by_length(order, src, dst)
+    fn convert(order: ByteOrder, src: &[u8], dst: &mut [u16]) -> (usize, usize) {
+        convert_units(order, src, dst)
     }
 
     fn write(units: &[u16], dst: &mut [u16]) -> (usize, usize) {
@@ -63,10 +61,8 @@ impl CodeUnit for u8 {
         4
     }
 
-    // without a copy of the code units; whether one doesn't fit is seen by the caller, who looks at the next bytes anyway
-    fn convert(order: ByteOrder, src: &[u8], dst: &mut [u8]) -> (usize, usize, bool) {
-        let (read, written) = convert_utf16_bytes_to_utf8_up_to_invalid(order, src, dst);
-        (read, written, false)
+    fn convert(order: ByteOrder, src: &[u8], dst: &mut [u8]) -> (usize, usize) {
+        convert_bytes(order, src, dst)
     }
 
     fn write(units: &[u16], dst: &mut [u8]) -> (usize, usize) {

@@ -48,6 +48,18 @@ impl Pending {
         }
     }
 
+    /// Returns the first `count` of these bytes as pending.
+    #[inline(always)]
+    pub(crate) fn of(bytes: [u8; 4], count: usize) -> Pending
+        requires at_most_three { count ≤ 3 }
+        ensures { result ≡ take count bytes }
+    {
+        Pending {
+            bytes,
+            count: count as u8,
+        }
+    }
+
     /// Returns whether there are none.
     pub(crate) fn is_empty(&self) -> bool
         ensures { IsTrue result ↔ (self.now ≡ []) }
@@ -77,6 +89,9 @@ impl Pending {
         ensures count { result.1 ≡ min 4 (length self.now + length src.now) }
         ensures bytes { take result.1 result.0 ≡ take 4 (self.now ++ src.now) }
     {
+        if self.count == 0 && src.len() >= WINDOW {
+            return ([src[0], src[1], src[2], src[3]], WINDOW);
+        }
         let mut bytes = self.bytes;
         let more = src.len().min(WINDOW - self.len());
         let end = self.len() + more;
@@ -91,23 +106,5 @@ impl Pending {
         ensures { result ≡ drop (length bytes.now - count) bytes.now }
     {
         Pending::hold(&bytes[bytes.len() - count..])
-    }
-
-    /// Returns the last `count` bytes of `before` followed by `read` as pending.
-    pub(crate) fn suffix_of_both(before: &[u8], read: &[u8], count: usize) -> Pending
-        requires before { length before.now ≤ 3 }
-        requires at_most_three { count ≤ 3 }
-        requires within { count ≤ length before.now + length read.now }
-        ensures { result ≡ drop (length before.now + length read.now - count)
-            (before.now ++ read.now) }
-    {
-        if count <= read.len() {
-            return Pending::suffix(read, count);
-        }
-        let mut bytes = [0; 6];
-        let end = before.len() + read.len();
-        bytes[..before.len()].copy_from_slice(before);
-        bytes[before.len()..end].copy_from_slice(read);
-        Pending::suffix(&bytes[..end], count)
     }
 }

@@ -1,18 +1,14 @@
 //! What the next bytes start with.
-ghost use Rattle.std.specs.Prelude.{◌≡◌, ◌≤◌, false, length, IsTrue};
-ghost use Rattle.encoding_text.specs.Encoding.{IsPendingSurrogate};
-ghost use Rattle.encoding_text.specs.Prefixes.{IsLongestPrefix};
-ghost use Rattle.encoding_text.specs.Surrogates.{IsValidUtf16};
-ghost use Rattle.encoding_streams.specs.Utf16Steps.{BeginsUnpaired, IsFirstOf};
+ghost use Rattle.std.specs.Prelude.{◌≡◌, ◌<◌, ◌≤◌, ℕ, false, length, take, drop, IsTrue};
+ghost use Rattle.encoding_text.specs.Utf16Bytes.{unit_bytes};
+ghost use Rattle.encoding_streams.specs.Utf16Parts.{IsMalformedUtf16};
+ghost use Rattle.encoding_streams.specs.Utf16Steps.{IsFirstOf};
 
-use encoding_text::mem::utf16_valid_up_to;
-use encoding_text::utf_16::{ByteOrder, decode_utf16_bytes};
+use encoding_kernels::scalar::{is_low_surrogate, is_surrogate};
+use encoding_text::utf_16::ByteOrder;
 
 /// How many bytes show what comes next: those of the longest character.
 pub(super) const WINDOW: usize = 4;
-
-/// The least low surrogate.
-const LEAST_LOW_SURROGATE: u16 = 0xDC00;
 
 /// What bytes start with.
 #[derive(Drop)]
@@ -25,35 +21,64 @@ pub(super) enum First {
     Incomplete,
 }
 
-/// Returns whether the code units, which start with no character, start with an unpaired surrogate whatever follows them.
-/// If not, they are none or a high surrogate.
-fn begins_unpaired(units: &[u16]) -> bool
-    requires no_character { IsLongestPrefix IsValidUtf16 units.now 0 }
-    ensures unpaired { IsTrue result → BeginsUnpaired units.now }
-    ensures pending { result ≡ false → IsPendingSurrogate units.now }
+/// Returns the code unit of two bytes.
+#[inline(always)]
+fn unit_of(order: ByteOrder, bytes: [u8; 2]) -> u16
+    ensures { unit_bytes order result ≡ bytes }
 {
-    if units.is_empty() {
-        return false;
+    match order {
+        ByteOrder::LittleEndian => u16::from_le_bytes(bytes),
+        ByteOrder::BigEndian => u16::from_be_bytes(bytes),
     }
-    if units.len() > 1 {
-        return true;
-    }
-    units[0] >= LEAST_LOW_SURROGATE
 }
 
 /// Returns what the bytes start with.
+#[inline(always)]
 pub(super) fn first_of(order: ByteOrder, bytes: &[u8]) -> First
     requires at_most_four { length bytes.now ≤ 4 }
     ensures { IsFirstOf order bytes.now result }
 {
-    let mut units = [0; 2];
-    let (_, count) = decode_utf16_bytes(order, bytes, &mut units);
-    let valid = utf16_valid_up_to(&units[..count]);
-    if valid > 0 {
-        return First::Characters(units, valid);
+    if bytes.len() < 2 {
+        return First::Incomplete;
     }
-    if begins_unpaired(&units[..count]) {
+    let first = unit_of(order, [bytes[0], bytes[1]]);
+    if !is_surrogate(first) {
+        return First::Characters([first, 0], 1);
+    }
+    if is_low_surrogate(first) {
         return First::Unpaired;
     }
-    First::Incomplete
+    if bytes.len() < WINDOW {
+        return First::Incomplete;
+    }
+    let second = unit_of(order, [bytes[2], bytes[3]]);
+    if !is_low_surrogate(second) {
+        return First::Unpaired;
+    }
+    First::Characters([first, second], 2)
+}
+
+/// Returns whether the bytes have no character that is worth a conversion: they are fewer than four, or start with an unpaired
+/// surrogate.
+#[inline(always)]
+pub(super) fn is_for_resume(order: ByteOrder, src: &[u8]) -> bool
+    ensures { IsTrue result → 4 ≤ length src.now
+        → IsMalformedUtf16 order (take 2 src.now) (drop 2 src.now) false }
+{
+    if src.len() < WINDOW {
+        return true;
+    }
+    match first_of(order, &src[..WINDOW]) {
+        First::Unpaired => true,
+        _ => false,
+    }
+}
+
+/// Returns whether the first code unit is ASCII.
+#[inline(always)]
+pub(super) fn begins_with_ascii(order: ByteOrder, src: &[u8]) -> bool
+    ensures { IsTrue result
+        → (unit : ℕ) × (unit < 0x80) × (unit_bytes order unit ≡ take 2 src.now) }
+{
+    src.len() >= 2 && unit_of(order, [src[0], src[1]]) < 0x80
 }

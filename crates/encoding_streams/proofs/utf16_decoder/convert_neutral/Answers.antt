@@ -12,10 +12,7 @@ returns-clause-characters g c =
     subst
     (λ q. Advances c.args.order g.U.CodeUnit.encode q c.args.src.now c.args.dst.now c.convert.new.dst c.convert.result.0
     c.convert.result.1 q)
-    (sym none) c.convert.ensures.characters
+    (sym none) c.convert.ensures
 
 pub returns-clause-none : goal.returns-clause-none
 returns-clause-none g c = λ some. absurd (some (c.is_empty.ensures.0 c.if-not-is_empty.false))
-
-pub returns-clause-full : goal.returns-clause-full
-returns-clause-full g c = λ full. (c.is_empty.ensures.0 c.if-not-is_empty.false, c.convert.ensures.full full)

@@ -87,7 +87,7 @@ returns-then-not-last g c =
           omega (arith, w.if-count-eq0.true, length-take c.followed_by-count.result.1 c.followed_by-count.result.0)
     ] in
     pending_whole c.args.order g.U.CodeUnit.encode g.U.CodeUnit.need _ _ _ _ _ c.requires.pending joined.bytes c.in-Incomplete.ensures _
-    c.hold-then-not-last.ensures none
+    c.of.ensures none
 
 pub returns-then-dst-max_units_per_scalar-2 : goal.returns-then-dst-max_units_per_scalar-2
 returns-then-dst-max_units_per_scalar-2 g c =

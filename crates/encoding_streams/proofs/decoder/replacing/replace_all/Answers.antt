@@ -1,6 +1,7 @@
 use Rattle.std.proofs.Common.{length, ap, arith}
 use Rattle.std.proofs.lemmas.List.{take_rest, length-drop}
 use Rattle.encoding_streams.proofs.ReplacingCallLemmas.{no_steps, steps_both, call_both, suffices_both, shrinks}
+use Rattle.encoding_streams.proofs.ExactReplacingLemmas.{none_replaced, then_end, then_step}
 use Rattle.encoding_streams.proofs.decoder.replacing.replace_all.Goals as goal
 
 pub returns-in-Some-clause-call : goal.returns-in-Some-clause-call
@@ -29,11 +30,21 @@ loop-result-preserved g c =
     record {
       steps = steps_both g.U.CodeUnit.encode g.U.CodeUnit.need g.U.Output.replacing _ _ _ _ _ _ _ _ _ _ _ _ _ c.loop-result.invariant.steps _ step.ensures.step
           c.in-None.is;
+      exact = then_step g.U.CodeUnit.encode g.U.CodeUnit.need _ _ _ _ _ _ _ _ _ _ _ _ _ c.loop-result.invariant.steps.replaces.writes
+          step.ensures.step.replaces.writes _ _ c.loop-result.invariant.exact (rw c.in-None.is at step.ensures.exact);
       undecided = step.ensures.undecided;
     }
 
 pub loop-result-init : goal.loop-result-init
 loop-result-init g c = record {
   steps = no_steps g.U.CodeUnit.encode g.U.Output.replacing _ _ _ _ (omega (arith, c.len-length.ensures.length, c.len-length.ensures.within));
+  exact = none_replaced g.U.CodeUnit.encode g.U.CodeUnit.need _ _ _ _;
   undecided = c.requires.undecided;
 }
+
+pub returns-in-Some-clause-exact : goal.returns-in-Some-clause-exact
+returns-in-Some-clause-exact g c =
+    let step = c.replace_one-result in
+    let l = c.loop-result in
+    then_end g.U.CodeUnit.encode g.U.CodeUnit.need _ _ _ _ _ _ _ _ _ _ _ _ _ l.invariant.steps.replaces.writes step.ensures.step.replaces.writes _ _ _
+    l.invariant.exact (rw c.in-Some.is at step.ensures.exact)

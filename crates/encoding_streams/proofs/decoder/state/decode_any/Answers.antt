@@ -3,6 +3,7 @@ use Rattle.std.proofs.lemmas.List.{take_rest, length-drop}
 use Rattle.encoding_streams.specs.Decoders.{decoding}
 use Rattle.encoding_streams.specs.DecoderSteps.{shown}
 use Rattle.encoding_streams.proofs.SniffCallLemmas.{early_reports, sniffed_reports, as_shown}
+use Rattle.encoding_streams.proofs.ExactLemmas.{early_exact, sniffed_exact}
 use Rattle.encoding_streams.proofs.decoder.state.decode_any.Goals as goal
 
 pub returns-then-is_at_end-clause-reports : goal.returns-then-is_at_end-clause-reports
@@ -35,3 +36,17 @@ returns-clause-free g c = λ report some.
       | inl none ↦ omega (arith, some, size, none, sniffed.ensures.stays none)
       | inr more ↦ omega (arith, more, size)
     ])
+
+pub returns-then-is_at_end-clause-exact : goal.returns-then-is_at_end-clause-exact
+returns-then-is_at_end-clause-exact g c =
+    early_exact g.U.CodeUnit.encode g.U.CodeUnit.need _ _ _ _ _ _ c.sniff-sniffed.ensures (c.is_at_end.ensures.yes c.if-is_at_end.true)
+
+pub returns-clause-exact : goal.returns-clause-exact
+returns-clause-exact g c =
+    let mid = c.sniff-sniffed.new.state in
+    let made = c.decode_decided-result in
+    let new = made.new.state in
+    let off = (c.is_at_end.ensures.no c.if-is_at_end.false).0 in
+    let new_is : shown new ≡ decoding mid.encoding new.pending =
+    λ i. record { encoding = made.ensures.kept.1 i; bom = (made.ensures.kept.0 ∙ off) i; pending = new.pending } in
+    sniffed_exact g.U.CodeUnit.encode g.U.CodeUnit.need _ (shown mid) _ _ _ _ c.sniff-sniffed.ensures off _ _ _ (shown new) new_is made.ensures.decodes

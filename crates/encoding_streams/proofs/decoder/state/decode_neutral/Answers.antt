@@ -1,4 +1,5 @@
 use Rattle.encoding_streams.proofs.ReportedCallLemmas.{inner_reports}
+use Rattle.encoding_streams.proofs.ExactLemmas.{step_of}
 use Rattle.encoding_streams.proofs.decoder.state.decode_neutral.Goals as goal
 
 pub returns-clause-reports : goal.returns-clause-reports
@@ -11,3 +12,8 @@ returns-clause-reports g c =
       between_reports = made.ensures.suffices_between_reports;
       replaced = made.ensures.suffices_replacing;
     }))
+
+pub returns-clause-decodes : goal.returns-clause-decodes
+returns-clause-decodes g c =
+    let step = step_of g.U.CodeUnit.encode g.U.CodeUnit.need _ _ _ c.new-inner.ensures _ _ _ _ _ _ _ c.decode-result.ensures.step in
+    rw (c.requires.neutral, c.kept-state.ensures) step

@@ -1,4 +1,5 @@
 use Rattle.encoding_streams.proofs.ReportedCallLemmas.{inner_reports}
+use Rattle.encoding_streams.proofs.ExactLemmas.{step_of}
 use Rattle.encoding_streams.proofs.decoder.state.decode_neutral_utf8.Goals as goal
 
 pub returns-then-in_neutral_state-clause-reports : goal.returns-then-in_neutral_state-clause-reports
@@ -24,3 +25,13 @@ returns-clause-reports g c =
       replaced = made.ensures.suffices_replacing;
     }) in
     rw (c.requires.utf8, c.requires.neutral, c.kept-state.ensures) call
+
+pub returns-then-in_neutral_state-clause-decodes : goal.returns-then-in_neutral_state-clause-decodes
+returns-then-in_neutral_state-clause-decodes g c =
+    let step = step_of g.U.CodeUnit.encode g.U.CodeUnit.need _ _ _ c.new-inner.ensures _ _ _ _ _ _ _ c.decode-result.ensures.step in
+    rw (c.requires.utf8, c.requires.neutral) (rw (c.in_neutral_state.ensures.0 c.if-in_neutral_state.true) at step)
+
+pub returns-clause-decodes : goal.returns-clause-decodes
+returns-clause-decodes g c =
+    let step = step_of g.U.CodeUnit.encode g.U.CodeUnit.need _ _ _ c.new-inner.ensures _ _ _ _ _ _ _ c.decode-result.ensures.step in
+    rw (c.requires.utf8, c.requires.neutral, c.kept-state.ensures) step

@@ -3,6 +3,7 @@ use Rattle.std.specs.Char.Escape.{encode_utf16}
 use Rattle.encoding_definitions.proofs.EncodingLemmas.{length-encode_utf16-le}
 use Rattle.encoding_runs.specs.MixedCalls.{ToUtf16, Decoded}
 use Rattle.encoding_streams.proofs.InnerLemmas.{utf8_call, utf16_call, quiet_utf8, quiet_utf16}
+use Rattle.encoding_streams.proofs.InnerLemmas.{utf8_step, utf16_step}
 use Rattle.encoding_streams.proofs.decoder.inner.U16Output.decode.Goals as goal
 
 pub returns-in-OfUtf8-clause-call : goal.returns-in-OfUtf8-clause-call
@@ -31,3 +32,12 @@ returns-in-OfUtf8-clause-quiet c =
 pub returns-in-OfUtf16-clause-quiet : goal.returns-in-OfUtf16-clause-quiet
 returns-in-OfUtf16-clause-quiet c =
     quiet_utf16 encode_utf16 2 c.in-OfUtf16.decoder.order length-encode_utf16-le _ _ _ _ _ _ _ _ _ c.decode_to_utf16_raw-in-OfUtf16.ensures.call
+
+pub returns-in-OfUtf8-clause-step : goal.returns-in-OfUtf8-clause-step
+returns-in-OfUtf8-clause-step c =
+    rw c.in-OfUtf8.is (utf8_step encode_utf16 2 _ _ _ _ _ _ _ _ _ c.decode_to_utf16_raw.ensures.call)
+
+pub returns-in-OfUtf16-clause-step : goal.returns-in-OfUtf16-clause-step
+returns-in-OfUtf16-clause-step c =
+    let made = c.decode_to_utf16_raw-in-OfUtf16 in
+    rw c.in-OfUtf16.is (utf16_step encode_utf16 2 c.in-OfUtf16.decoder.order _ _ _ _ _ _ _ _ _ made.ensures.call)
