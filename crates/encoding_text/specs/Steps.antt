@@ -1,8 +1,8 @@
--- What private functions promise of their steps; no public contract cites these. Of a conversion from UTF-8: the
--- longest prefix that fits, by what comes after it. Of the decoder: what ends a call that has read its source, or whose
+-- What private functions promise of their steps; no public contract cites these. Of a copy: that it is of ASCII. Of a
+-- conversion from UTF-8: the longest prefix that fits, by what comes after it. Of the decoder: what ends a call that has read its source, or whose
 -- next bytes start with no character, and what pending bytes become when more bytes come.
-use Rattle.std.specs.Prelude.{◌≡◌, ℕ, ◌-◌, ◌≤◌, true, List, length, take, drop, encode_utf8_all, Bool, false, [], ◌≢◌, ◌+◌, ◌<◌, ◌∷◌, ◌++◌, ◌⊎◌}
-use Rattle.std.specs.Str.{all_scalars}
+use Rattle.std.specs.Prelude.{◌≡◌, ℕ, ◌-◌, ◌≤◌, true, List, length, take, drop, encode_utf8_all, Bool, false, [], ◌≢◌, ◌+◌, ◌<◌, ◌∷◌, ◌++◌, ◌⊎◌, ◌↔◌, IsTrue, IsFalse}
+use Rattle.std.specs.Str.{all_scalars, IsAscii}
 use Rattle.std.specs.List.{flat_map}
 use Rattle.encoding_definitions.specs.Prefixes.{WritesPrefix}
 use Rattle.encoding_definitions.specs.Converting.{FittingBegins}
@@ -15,6 +15,10 @@ use Rattle.encoding_text.specs.declared.utf_8.first.First.{First}
 use Rattle.encoding_text.specs.declared.utf_8.first.First.TheVariants as first
 use Rattle.encoding_text.specs.declared.decoder.pending.Resumed.{Resumed}
 use Rattle.encoding_text.specs.declared.decoder.pending.Resumed.TheVariants as resume
+
+-- all of the source is copied if it is ASCII, and nothing otherwise
+abbrev pub CopiesIfAscii : List ℕ → List ℕ → List ℕ → Bool → Type 0
+CopiesIfAscii src old new result = (IsTrue result ↔ IsAscii src) × (IsTrue result → WritesPrefix old new (length src) src) × (IsFalse result → new ≡ old)
 
 -- what the bytes begin with: a character, or none and then a malformed sequence or one that is incomplete at their end
 abbrev pub IsFirst : List ℕ → First → Type 0

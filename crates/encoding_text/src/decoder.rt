@@ -1,7 +1,7 @@
 //! The streaming UTF-8 decoder: Encoding Standard, section 8.1.1. The elements of `dst` past those
 //! reported as written are unchanged.
 
-ghost use Rattle.std.specs.Prelude.{◌≡◌, ℕ, ◌<◌, ◌≤◌, ◌↔◌, ◌⊎◌, List, [], length, encode_utf8, IsTrue, ◌≢◌};
+ghost use Rattle.std.specs.Prelude.{◌≡◌, ℕ, ◌<◌, ◌≤◌, ◌↔◌, ◌⊎◌, List, [], length, take, encode_utf8, IsTrue, ◌≢◌};
 ghost use Rattle.std.specs.Option.{SomeIff};
 ghost use Rattle.std.specs.Char.Escape.{encode_utf16};
 ghost use Rattle.encoding_definitions.specs.Sequence.{IsPending, IsIncomplete};
@@ -78,6 +78,17 @@ impl Utf8Decoder {
         ensures pending { IsPending self.now }
     {
         self.pending.is_empty()
+    }
+
+    /// Returns an array that starts with the pending bytes, and how many they are.
+    #[inline(always)]
+    pub fn pending(&self) -> ([u8; 4], usize)
+        ensures bytes { take result.1 result.0 ≡ self.now }
+        ensures count { result.1 ≡ length self.now }
+        ensures within { result.1 ≤ 3 }
+        ensures pending { IsPending self.now }
+    {
+        self.pending.bytes()
     }
 
     /// Returns the length in UTF-16 code units of a destination that is large enough for the next `byte_length` bytes,

@@ -7,15 +7,17 @@ ghost use Rattle.encoding_definitions.specs.Ascii.{IsFirstOther, prefix_length_b
 ghost use Rattle.encoding_definitions.specs.Prefixes.{IsLongestPrefix, WritesPrefix};
 ghost use Rattle.encoding_kernels.specs.EndingUnits.{WritesUtf16, units_in};
 ghost use Rattle.encoding_kernels.specs.Scans.{AllBelow, BelowUpTo, IsRunBelow};
+ghost use Rattle.encoding_text.specs.Steps.{CopiesIfAscii};
 
 use encoding_kernels::lengths::{BLOCK_OF_TEXT, STRIDE_OF_TEXT};
 use encoding_kernels::simd::copy::{
     copy, copy_first, copy_run_of_block, pack, unpack, unpack_block, unpack_first, write_short,
 };
 use encoding_kernels::simd::scan::{
-    BytesBelow, are_bytes_below, pass_short, prefix_after_stride, prefix_len_below, run_len_below,
+    BytesBelow, are_bytes_below, pass_short, prefix_after_stride, prefix_len_below,
 };
-use encoding_kernels::simd::units::are_units_below;
+pub(crate) use encoding_kernels::simd::scan::{run_len_below, run_len_by_two};
+use encoding_kernels::simd::units::{UnitsBelow, are_units_below};
 use encoding_kernels::simd::width::{
     ASCII_END, BASIC_LATIN_END, BLOCK, FOUR, FOUR_BLOCKS, STRIDE, TWO_BLOCKS, UNIT_BLOCK,
 };
@@ -28,6 +30,48 @@ pub(crate) fn is_short(bytes: &[u8]) -> bool
 {
     let bound = ASCII_END;
     pass_short::<TWO_BLOCKS, _>(&BytesBelow { bytes, bound }, bytes.len())
+}
+
+/// Copies at most `LONGEST` bytes if all are ASCII, and returns whether they are.
+#[inline(always)]
+pub(crate) fn write_short_ascii<const LONGEST: usize>(src: &[u8], dst: &mut [u8]) -> bool
+    requires short { (length src.now ≤ LONGEST) × (LONGEST ≤ 128) }
+    requires dst_length { length src.now ≤ length dst.old }
+    ensures { CopiesIfAscii src.now dst.old dst.new result }
+{
+    let ascii = BytesBelow {
+        bytes: src,
+        bound: ASCII_END,
+    };
+    write_short::<LONGEST, _, _>(&ascii, src.len(), dst)
+}
+
+/// Copies at most `LONGEST` bytes, each as a UTF-16 code unit, if all are ASCII, and returns whether they are.
+#[inline(always)]
+pub(crate) fn write_short_ascii_as_units<const LONGEST: usize>(src: &[u8], dst: &mut [u16]) -> bool
+    requires short { (length src.now ≤ LONGEST) × (LONGEST ≤ 128) }
+    requires dst_length { length src.now ≤ length dst.old }
+    ensures { CopiesIfAscii src.now dst.old dst.new result }
+{
+    let ascii = BytesBelow {
+        bytes: src,
+        bound: ASCII_END,
+    };
+    write_short::<LONGEST, _, _>(&ascii, src.len(), dst)
+}
+
+/// Copies at most `LONGEST` UTF-16 code units, each as a byte, if all are ASCII, and returns whether they are.
+#[inline(always)]
+pub(crate) fn write_short_ascii_as_bytes<const LONGEST: usize>(src: &[u16], dst: &mut [u8]) -> bool
+    requires short { (length src.now ≤ LONGEST) × (LONGEST ≤ 128) }
+    requires dst_length { length src.now ≤ length dst.old }
+    ensures { CopiesIfAscii src.now dst.old dst.new result }
+{
+    let ascii = UnitsBelow {
+        units: src,
+        bound: BASIC_LATIN_END,
+    };
+    write_short::<LONGEST, _, _>(&ascii, src.len(), dst)
 }
 
 /// Returns the length of the longest ASCII prefix, as `ascii_valid_up_to` does, by the length of the bytes. The first `KNOWN` bytes
@@ -202,11 +246,7 @@ pub(crate) fn copy_ascii_prefix(src: &[u8], dst: &mut [u8]) -> usize
     ensures copied { WritesPrefix dst.old dst.new result (take result src.now) }
 {
     let fitting = &src[..src.len().min(dst.len())];
-    let ascii = BytesBelow {
-        bytes: fitting,
-        bound: ASCII_END,
-    };
-    if fitting.len() <= TWO_BLOCKS && write_short::<TWO_BLOCKS, _, _>(&ascii, fitting.len(), dst) {
+    if fitting.len() <= TWO_BLOCKS && write_short_ascii::<TWO_BLOCKS>(fitting, dst) {
         return fitting.len();
     }
     let whole = length_of_strides(fitting.len());
@@ -285,11 +325,7 @@ pub(crate) fn unpack_rest(src: &[u8], dst: &mut [u16]) -> usize
 {
     if src.len() >= BLOCK {
         let run = run_len_below::<BLOCK>(src, 0, ASCII_END);
-        let ascii = BytesBelow {
-            bytes: &src[..run],
-            bound: ASCII_END,
-        };
-        write_short::<BLOCK, _, _>(&ascii, run, dst);
+        write_short_ascii_as_units::<BLOCK>(&src[..run], dst);
         return run;
     }
     let whole = length_of_strides(src.len());
@@ -328,11 +364,7 @@ pub(crate) fn copy_to_basic_latin(src: &[u8], dst: &mut [u16]) -> usize
     ensures copied { WritesPrefix dst.old dst.new result (take result src.now) }
 {
     let fitting = &src[..src.len().min(dst.len())];
-    let ascii = BytesBelow {
-        bytes: fitting,
-        bound: ASCII_END,
-    };
-    if fitting.len() <= BLOCK && write_short::<BLOCK, _, _>(&ascii, fitting.len(), dst) {
+    if fitting.len() <= BLOCK && write_short_ascii_as_units::<BLOCK>(fitting, dst) {
         return fitting.len();
     }
     unpack_ascii_prefix(fitting, dst)

@@ -65,6 +65,17 @@ impl Pending {
         self.count
     }
 
+    /// Returns an array that starts with the bytes, and how many they are.
+    #[inline(always)]
+    pub(crate) fn bytes(&self) -> ([u8; 4], usize)
+        ensures bytes { take result.1 result.0 ≡ self.now }
+        ensures count { result.1 ≡ length self.now }
+        ensures within { result.1 ≤ 3 }
+        ensures pending { IsPending self.now }
+    {
+        (self.bytes, self.count)
+    }
+
     /// Reads bytes of the source as long as they continue the incomplete sequence. Returns what they make of it and how
     /// many they are.
     #[inline(never)]

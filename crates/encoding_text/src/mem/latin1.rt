@@ -5,12 +5,12 @@ ghost use Rattle.std.specs.Prelude.{◌≡◌, ◌+◌, ◌-◌, ◌*◌, ◌%�
 ghost use Rattle.std.specs.Str.{IsAscii};
 ghost use Rattle.encoding_definitions.specs.Prefixes.{IsLongestFittingPrefix, WritesPrefix};
 
-use crate::ascii::prefixes::{copy_ascii_prefix, copy_blocks};
+use crate::ascii::prefixes::{copy_ascii_prefix, copy_blocks, write_short_ascii};
 use encoding_kernels::latin1::to_utf8::{
     utf8_length_of_first, write_few_latin1, write_latin1, write_latin1_block,
 };
 use encoding_kernels::scalar::write_scalar;
-use encoding_kernels::simd::copy::{copy_prefix, pack_lower, unpack, write_short};
+use encoding_kernels::simd::copy::{copy_prefix, pack_lower, unpack};
 use encoding_kernels::simd::scan::{AllPass, BytesBelow};
 use encoding_kernels::simd::width::{
     ASCII_END, BLOCK, HALF_BLOCK, HALF_STRIDE, STRIDE, TWO_BLOCKS,
@@ -223,11 +223,7 @@ pub fn convert_latin1_to_utf8_partial(src: &[u8], dst: &mut [u8]) -> (usize, usi
     if src.len() > TWO_BLOCKS {
         return convert_long_latin1(src, dst);
     }
-    let ascii = BytesBelow {
-        bytes: src,
-        bound: ASCII_END,
-    };
-    if src.len() <= dst.len() && write_short::<TWO_BLOCKS, _, _>(&ascii, src.len(), dst) {
+    if src.len() <= dst.len() && write_short_ascii::<TWO_BLOCKS>(src, dst) {
         return (src.len(), src.len());
     }
     convert_few_latin1(src, dst)

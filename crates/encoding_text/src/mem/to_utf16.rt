@@ -10,12 +10,10 @@ ghost use Rattle.encoding_definitions.specs.Converting.{WritesText};
 ghost use Rattle.encoding_kernels.specs.Scans.{AllBelow};
 ghost use Rattle.encoding_text.specs.Steps.{ConvertsSome};
 
-use crate::ascii::prefixes::{unpack_ascii_prefix, unpack_blocks};
+use crate::ascii::prefixes::{unpack_ascii_prefix, unpack_blocks, write_short_ascii_as_units};
 use crate::decoder::replacing::malformed_length;
 use crate::utf_8::{convert_beyond_ascii, convert_text, convert_utf8_to_utf16_up_to_invalid};
 use encoding_kernels::lengths::{BLOCK_OF_TEXT, SHORT};
-use encoding_kernels::simd::copy::write_short;
-use encoding_kernels::simd::scan::BytesBelow;
 use encoding_kernels::simd::width::ASCII_END;
 use encoding_kernels::utf8_to_utf16::text::convert_short;
 
@@ -78,11 +76,7 @@ pub fn convert_utf8_to_utf16(src: &[u8], dst: &mut [u16]) -> usize
         }
         return convert_with_replacement(src, dst, blocks);
     }
-    let ascii = BytesBelow {
-        bytes: src,
-        bound: ASCII_END,
-    };
-    if write_short::<SHORT, _, _>(&ascii, src.len(), dst) {
+    if write_short_ascii_as_units::<SHORT>(src, dst) {
         return src.len();
     }
     convert_with_replacement(src, dst, 0)
@@ -119,8 +113,7 @@ pub fn convert_str_to_utf16(src: &str, dst: &mut [u16]) -> usize
     if bytes.len() > SHORT {
         return convert_long_text(bytes, dst);
     }
-    let bound = ASCII_END;
-    if write_short::<SHORT, _, _>(&BytesBelow { bytes, bound }, bytes.len(), dst) {
+    if write_short_ascii_as_units::<SHORT>(bytes, dst) {
         return bytes.len();
     }
     convert_short(bytes, dst)

@@ -7,12 +7,12 @@ ghost use Rattle.encoding_definitions.specs.Prefixes.{WritesPrefix};
 ghost use Rattle.encoding_definitions.specs.Latin1.{IsUtf8Latin1};
 
 use super::latin1::copy_ascii;
-use crate::ascii::prefixes::copy_blocks;
+use crate::ascii::prefixes::{copy_blocks, write_short_ascii};
 use encoding_kernels::latin1::from_utf8::{
     few_with_zeros, latin1_length_of_first, latin1_of, latin1_of_after, write_latin1_of_two,
 };
-use encoding_kernels::simd::copy::{copy_prefix, write_first, write_short};
-use encoding_kernels::simd::scan::{BytesBelow, are_bytes_below};
+use encoding_kernels::simd::copy::{copy_prefix, write_first};
+use encoding_kernels::simd::scan::are_bytes_below;
 use encoding_kernels::simd::width::{ASCII_END, BLOCK, STRIDE, TWO_BLOCKS};
 use encoding_kernels::tuning::BLOCKS_BEFORE_RETEST;
 use std::simd::prelude::*;
@@ -177,11 +177,7 @@ pub fn convert_utf8_to_latin1(src: &[u8], dst: &mut [u8]) -> usize
     if src.len() > TWO_BLOCKS {
         return convert_long_utf8(src, dst);
     }
-    let ascii = BytesBelow {
-        bytes: src,
-        bound: ASCII_END,
-    };
-    if src.len() <= dst.len() && write_short::<TWO_BLOCKS, _, _>(&ascii, src.len(), dst) {
+    if src.len() <= dst.len() && write_short_ascii::<TWO_BLOCKS>(src, dst) {
         return src.len();
     }
     if src.len() < STRIDE {

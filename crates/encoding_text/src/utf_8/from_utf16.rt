@@ -6,12 +6,10 @@ ghost use Rattle.encoding_definitions.specs.Prefixes.{WritesPrefix};
 ghost use Rattle.encoding_definitions.specs.Utf16.{IsHighSurrogate, IsLowSurrogate, IsUtf8OfPrefix, IsUtf8OfLongestPrefix, IsUtf8OfUnits};
 
 use crate::ascii;
-use crate::ascii::prefixes::pack_blocks;
+use crate::ascii::prefixes::{pack_blocks, write_short_ascii_as_bytes};
 use encoding_kernels::scalar::{
     is_high_surrogate, is_low_surrogate, utf8_length, utf16_length, write_scalar,
 };
-use encoding_kernels::simd::copy::write_short;
-use encoding_kernels::simd::units::UnitsBelow;
 use encoding_kernels::simd::width::{BASIC_LATIN_END, HALF_STRIDE, UNIT_BLOCK};
 use encoding_kernels::utf16::source::Units;
 use encoding_kernels::utf16_to_utf8::tail::scalar_at;
@@ -61,11 +59,7 @@ fn copy_first_ascii(src: &[u16], dst: &mut [u8]) -> usize
     if src.len() > UNIT_BLOCK {
         return pack_blocks(src, dst);
     }
-    let ascii = UnitsBelow {
-        units: src,
-        bound: BASIC_LATIN_END,
-    };
-    if write_short::<UNIT_BLOCK, _, _>(&ascii, src.len(), dst) {
+    if write_short_ascii_as_bytes::<UNIT_BLOCK>(src, dst) {
         return src.len();
     }
     0
@@ -215,6 +209,7 @@ pub fn convert_utf16_to_utf8_partial_tail(src: &[u16], dst: &mut [u8]) -> (usize
 pub fn convert_utf16_to_utf8_partial(src: &[u16], dst: &mut [u8]) -> (usize, usize)
     ensures longest { IsUtf8OfLongestPrefix src.now (length dst.old) result.0
         (take result.1 dst.new) }
+    ensures text { IsUtf8 (take result.1 dst.new) }
     ensures within { result.0 ≤ length src.now }
     ensures unchanged_after { WritesPrefix dst.old dst.new result.1 (take result.1 dst.new) }
 {

@@ -16,10 +16,11 @@ use super::first::{First, character_length};
 use super::validate::{utf8_valid_up_to, valid_beyond_ascii, valid_up_to_by_vectors};
 use crate::ascii::prefixes::{
     copy_prefix_of_text, copy_to_basic_latin, is_short, unpack_blocks, unpack_rest,
+    write_short_ascii_as_units,
 };
 use encoding_kernels::lengths::{LEAST_FOR_VECTORS, SHORT};
 use encoding_kernels::scalar::{decode_utf8_scalar, write_utf16};
-use encoding_kernels::simd::copy::{copy_prefix, write_short};
+use encoding_kernels::simd::copy::copy_prefix;
 use encoding_kernels::simd::scan::{AllPass, BytesBelow};
 use encoding_kernels::simd::width::{ASCII_END, FOUR_BLOCKS, HALF_BLOCK};
 use encoding_kernels::tuning::{CONVERTED_PIECE, CONVERTED_RUN};
@@ -100,11 +101,7 @@ fn convert_short_beyond_ascii(src: &[u8], dst: &mut [u16]) -> (usize, usize)
     }
     // before a malformed sequence there is often only ASCII
     let text = &src[..valid];
-    let ascii = BytesBelow {
-        bytes: text,
-        bound: ASCII_END,
-    };
-    let written = if write_short::<SHORT, _, _>(&ascii, text.len(), dst) {
+    let written = if write_short_ascii_as_units::<SHORT>(text, dst) {
         valid
     } else {
         convert_short(text, dst)
@@ -247,11 +244,7 @@ pub fn convert_utf8_to_utf16_up_to_invalid(src: &[u8], dst: &mut [u16]) -> (usiz
     ensures { ConvertsMaximal encode_utf16 src.now dst.old dst.new result.0 result.1 }
 {
     if src.len() <= SHORT && src.len() <= dst.len() {
-        let ascii = BytesBelow {
-            bytes: src,
-            bound: ASCII_END,
-        };
-        if write_short::<SHORT, _, _>(&ascii, src.len(), dst) {
+        if write_short_ascii_as_units::<SHORT>(src, dst) {
             return (src.len(), src.len());
         }
         return convert_short_beyond_ascii(src, dst);

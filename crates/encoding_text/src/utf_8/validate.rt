@@ -5,9 +5,10 @@ ghost use Rattle.encoding_definitions.specs.Prefixes.{IsLongestPrefix};
 ghost use Rattle.encoding_kernels.specs.Scans.{BelowUpTo};
 
 use super::first::{First, character_length};
-use crate::ascii::prefixes::{ascii_valid_up_to_by_length, is_short};
+use crate::ascii::prefixes::{
+    ascii_valid_up_to_by_length, is_short, run_len_below, run_len_by_two,
+};
 use encoding_kernels::lengths::{LEAST_FOR_VECTORS, SHORT, TWO_WIDEST_VECTORS};
-use encoding_kernels::simd::scan::{run_len_below, run_len_by_two};
 use encoding_kernels::simd::width::{ASCII_END, BLOCK, HALF_BLOCK, STRIDE};
 use encoding_kernels::utf8::validate::{well_formed_blocks, well_formed_short};
 

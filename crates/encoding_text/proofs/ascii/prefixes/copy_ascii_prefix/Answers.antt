@@ -5,7 +5,7 @@ use Rattle.std.proofs.lemmas.List.{length-take, take_all, take_rest, take-take}
 use Rattle.encoding_definitions.specs.Prefixes.{IsLongestPrefix, WritesPrefix}
 use Rattle.encoding_text.proofs.WholePrefixesLemmas.{fitting_ascii, fitting_prefix, fitting_copied, prefix_on, copied_on}
 use Rattle.encoding_text.proofs.ascii.prefixes.copy_ascii_prefix.Goals as goal
-use Rattle.encoding_text.proofs.ascii.prefixes.copy_ascii_prefix.Goals.{else-fitting-le-TWO_BLOCKS-via-then-fitting-le-TWO_BLOCKS+else-write_short}
+use Rattle.encoding_text.proofs.ascii.prefixes.copy_ascii_prefix.Goals.{else-fitting-le-TWO_BLOCKS-via-then-fitting-le-TWO_BLOCKS+else-write_short_ascii}
 use Rattle.encoding_text.proofs.ascii.prefixes.copy_ascii_prefix.Goals.{else-fitting-le-TWO_BLOCKS-via-else-fitting-le-TWO_BLOCKS}
 
 -- the first m bytes are those that fit, in a destination that is unchanged so far
@@ -36,7 +36,8 @@ returns-in-Some-clause-prefix c =
     let least : (m ≤ length src) × (m ≤ length old) × (m < length src → m ≡ length old) =
     (omega (arith, c.min.ensures), omega (arith, c.min.ensures), λ l. omega (arith, c.min.ensures, l)) in
     let same : mid ≡ old = elim c.else-fitting-le-TWO_BLOCKS.branch [
-      | else-fitting-le-TWO_BLOCKS-via-then-fitting-le-TWO_BLOCKS+else-write_short w ↦ w.dst-is ∙ w.write_short.ensures.unchanged w.if-write_short.false
+      | else-fitting-le-TWO_BLOCKS-via-then-fitting-le-TWO_BLOCKS+else-write_short_ascii w ↦ w.dst-is
+          ∙ w.write_short_ascii.ensures.2 w.if-write_short_ascii.false
       | else-fitting-le-TWO_BLOCKS-via-else-fitting-le-TWO_BLOCKS w ↦ w.dst-is
     ] in
     prefix_fits src old mid m least same _
@@ -52,7 +53,8 @@ returns-clause-prefix c =
     let least : (m ≤ length src) × (m ≤ length old) × (m < length src → m ≡ length old) =
     (omega (arith, c.min.ensures), omega (arith, c.min.ensures), λ l. omega (arith, c.min.ensures, l)) in
     let same : mid ≡ old = elim c.else-fitting-le-TWO_BLOCKS.branch [
-      | else-fitting-le-TWO_BLOCKS-via-then-fitting-le-TWO_BLOCKS+else-write_short w ↦ w.dst-is ∙ w.write_short.ensures.unchanged w.if-write_short.false
+      | else-fitting-le-TWO_BLOCKS-via-then-fitting-le-TWO_BLOCKS+else-write_short_ascii w ↦ w.dst-is
+          ∙ w.write_short_ascii.ensures.2 w.if-write_short_ascii.false
       | else-fitting-le-TWO_BLOCKS-via-else-fitting-le-TWO_BLOCKS w ↦ w.dst-is
     ] in
     let whole = c.length_of_strides-whole.result in
@@ -71,7 +73,8 @@ returns-clause-copied c =
     let least : (m ≤ length src) × (m ≤ length old) × (m < length src → m ≡ length old) =
     (omega (arith, c.min.ensures), omega (arith, c.min.ensures), λ l. omega (arith, c.min.ensures, l)) in
     let same : mid ≡ old = elim c.else-fitting-le-TWO_BLOCKS.branch [
-      | else-fitting-le-TWO_BLOCKS-via-then-fitting-le-TWO_BLOCKS+else-write_short w ↦ w.dst-is ∙ w.write_short.ensures.unchanged w.if-write_short.false
+      | else-fitting-le-TWO_BLOCKS-via-then-fitting-le-TWO_BLOCKS+else-write_short_ascii w ↦ w.dst-is
+          ∙ w.write_short_ascii.ensures.2 w.if-write_short_ascii.false
       | else-fitting-le-TWO_BLOCKS-via-else-fitting-le-TWO_BLOCKS w ↦ w.dst-is
     ] in
     let room = fit src old mid m least same in

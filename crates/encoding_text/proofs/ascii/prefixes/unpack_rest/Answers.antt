@@ -1,5 +1,6 @@
-use Rattle.std.proofs.Common.{◌-◌, arith, length}
+use Rattle.std.proofs.Common.{◌-◌, arith, length, length-take-le, subst, take}
 use Rattle.std.proofs.lemmas.List.{take_rest}
+use Rattle.encoding_definitions.specs.Prefixes.{WritesPrefix}
 use Rattle.encoding_text.proofs.WholePrefixesLemmas.{first_run, fitting_ascii, fitting_prefix, fitting_copied, prefix_on, copied_on}
 use Rattle.encoding_text.proofs.ascii.prefixes.unpack_rest.Goals as goal
 
@@ -9,11 +10,11 @@ returns-then-src-ge-BLOCK-clause-prefix c =
 
 pub returns-then-src-ge-BLOCK-clause-copied : goal.returns-then-src-ge-BLOCK-clause-copied
 returns-then-src-ge-BLOCK-clause-copied c =
-    let run =
-    first_run c.args.src.now c.run_len_below-run.result c.if-src-ge-BLOCK.true c.run_len_below-run.ensures
-    (c.requires.other c.if-src-ge-BLOCK.true) in
-    let all = c.write_short.ensures.pass.1 (λ k from to. run.kind k) in
-    c.write_short.ensures.written all
+    let src = c.args.src.now in
+    let n = c.run_len_below-run.result in
+    let call = c.write_short_ascii_as_units in
+    let run = first_run src n c.if-src-ge-BLOCK.true c.run_len_below-run.ensures (c.requires.other c.if-src-ge-BLOCK.true) in
+    subst (λ m. WritesPrefix c.args.dst.now call.new.dst m (take n src)) (length-take-le n src run.within) (call.ensures.1 (call.ensures.0.1 run.kind))
 
 pub returns-in-Some-clause-prefix : goal.returns-in-Some-clause-prefix
 returns-in-Some-clause-prefix c =

@@ -5,7 +5,6 @@ use Rattle.encoding_definitions.specs.Prefixes.{WritesPrefix}
 use Rattle.encoding_definitions.specs.Utf16.{AreCodeUnits, IsUtf8OfPrefix}
 use Rattle.encoding_kernels.proofs.OverwriteLemmas.{ascii_plain}
 use Rattle.encoding_kernels.proofs.Utf16ToUtf8Lemmas.{converts_bmp, converts_prefix}
-use Rattle.encoding_kernels.proofs.ScanLemmas.{ascii_below}
 use Rattle.encoding_text.proofs.Latin1ConversionLemmas.{ascii_taken}
 use Rattle.encoding_text.proofs.utf_8.from_utf16.copy_first_ascii.Goals as goal
 
@@ -25,14 +24,14 @@ returns-then-src-gt-UNIT_BLOCK-clause-prefix c =
     let call = c.pack_blocks.ensures in
     copied_ascii c.args.src.now _ _ _ (λ k. omega (arith, c.type_inv.src k)) call.within (ascii_taken _ _ call.ascii) call.copied
 
-pub returns-then-write_short-clause-prefix : goal.returns-then-write_short-clause-prefix
-returns-then-write_short-clause-prefix c =
+pub returns-then-write_short_ascii_as_bytes-clause-prefix : goal.returns-then-write_short_ascii_as_bytes-clause-prefix
+returns-then-write_short_ascii_as_bytes-clause-prefix c =
     let us = c.args.src.now in
-    let call = c.write_short.ensures in
-    let is = c.if-write_short.true in
+    let call = c.write_short_ascii_as_bytes.ensures in
+    let is = c.if-write_short_ascii_as_bytes.true in
     let all = sym (take_all (length us) us (omega arith)) in
-    copied_ascii us _ _ (length us) (λ k. omega (arith, c.type_inv.src k)) (omega arith) (subst IsAscii all (ascii_below us (call.pass.0 is)))
-    (subst (WritesPrefix c.args.dst.now _ (length us)) all (call.written is))
+    copied_ascii us _ _ (length us) (λ k. omega (arith, c.type_inv.src k)) (omega arith) (subst IsAscii all (call.0.0 is))
+    (subst (WritesPrefix c.args.dst.now _ (length us)) all (call.1 is))
 
 pub returns-clause-prefix : goal.returns-clause-prefix
 returns-clause-prefix c = no_units c.args.src.now (λ k. omega (arith, c.type_inv.src k))

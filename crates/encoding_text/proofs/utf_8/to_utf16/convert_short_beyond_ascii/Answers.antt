@@ -5,7 +5,6 @@ use Rattle.std.proofs.lemmas.List.{take_all}
 use Rattle.encoding_definitions.specs.Prefixes.{WritesPrefix}
 use Rattle.std.specs.Char.Escape.{encode_utf16}
 use Rattle.encoding_definitions.specs.Converting.{ConvertsMaximal}
-use Rattle.encoding_kernels.proofs.ScanLemmas.{ascii_below}
 use Rattle.encoding_text.proofs.ConvertingLemmas.{ascii_written, converts_valid, of_whole_prefix}
 use Rattle.encoding_text.proofs.utf_8.to_utf16.convert_short_beyond_ascii.Goals as goal
 
@@ -25,20 +24,20 @@ returns-then-valid-src c =
 pub convert_short-written-requires-clause-text : goal.convert_short-written-requires-clause-text
 convert_short-written-requires-clause-text c = c.valid_up_to_by_vectors-valid.ensures.kind
 
-pub returns-then-write_short : goal.returns-then-write_short
-returns-then-write_short c =
+pub returns-then-write_short_ascii_as_units : goal.returns-then-write_short_ascii_as_units
+returns-then-write_short_ascii_as_units c =
     let src = c.args.src.now in
     let found = c.valid_up_to_by_vectors-valid in
-    let ascii = ascii_below (take found.result src) (c.write_short.ensures.pass.0 c.if-write_short.true) in
-    let units = ascii_written _ _ _ ascii (c.write_short.ensures.written c.if-write_short.true) in
+    let ascii = c.write_short_ascii_as_units.ensures.0.0 c.if-write_short_ascii_as_units.true in
+    let units = ascii_written _ _ _ ascii (c.write_short_ascii_as_units.ensures.1 c.if-write_short_ascii_as_units.true) in
     converts_valid encode_utf16 _ _ _ _ _ found.ensures
-    (subst (λ n. WritesPrefix c.args.dst.now c.write_short.new.dst n (flat_map encode_utf16 (chars (take found.result src))))
+    (subst (λ n. WritesPrefix c.args.dst.now c.write_short_ascii_as_units.new.dst n (flat_map encode_utf16 (chars (take found.result src))))
     (length-take-le found.result src found.ensures.within) units)
 
-pub returns-else-write_short : goal.returns-else-write_short
-returns-else-write_short c =
+pub returns-else-write_short_ascii_as_units : goal.returns-else-write_short_ascii_as_units
+returns-else-write_short_ascii_as_units c =
     let found = c.valid_up_to_by_vectors-valid in
     let convert = c.convert_short-written in
-    let same = c.write_short.ensures.unchanged c.if-write_short.false in
+    let same = c.write_short_ascii_as_units.ensures.2 c.if-write_short_ascii_as_units.false in
     subst (λ old. ConvertsMaximal encode_utf16 c.args.src.now old convert.new.dst found.result convert.result) same
     (converts_valid encode_utf16 _ _ _ _ _ found.ensures convert.ensures)
