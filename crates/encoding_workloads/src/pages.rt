@@ -1,8 +1,9 @@
 //! Pages that people read and write each day: messages in Chinese, Japanese and Korean, prose, code and JSON.
 
-ghost use Rattle.std.specs.Prelude.{◌<◌, ◌≤◌, ◌≡◌, length};
+ghost use Rattle.std.specs.Prelude.{◌≤◌};
 
 use crate::random::Random;
+use crate::text::character;
 use std::alloc::{AllocError, Global};
 
 /// A kind of page. Where there is a number, one letter beyond ASCII comes in about as many bytes.
@@ -25,235 +26,45 @@ pub(crate) enum Page {
 /// How long a page may become beyond what was asked for, in bytes.
 const SPARE: usize = 4096;
 
-/// Common words. One in nine has a letter beyond ASCII.
-const SPANISH: [&str; 63] = [
-    "de",
-    "la",
-    "que",
-    "el",
-    "en",
-    "y",
-    "los",
-    "se",
-    "del",
-    "las",
-    "por",
-    "con",
-    "una",
-    "su",
-    "para",
-    "es",
-    "al",
-    "lo",
-    "como",
-    "pero",
-    "sus",
-    "le",
-    "este",
-    "porque",
-    "esta",
-    "entre",
-    "cuando",
-    "muy",
-    "sin",
-    "sobre",
-    "hasta",
-    "hay",
-    "donde",
-    "quien",
-    "desde",
-    "todo",
-    "nos",
-    "durante",
-    "todos",
-    "uno",
-    "les",
-    "contra",
-    "otros",
-    "ese",
-    "eso",
-    "ante",
-    "ellos",
-    "antes",
-    "unos",
-    "otro",
-    "otras",
-    "tanto",
-    "mucho",
-    "nada",
-    "poco",
-    "estar",
-    "más",
-    "también",
-    "año",
-    "después",
-    "país",
-    "mañana",
-    "información",
-];
+/// Common words, between bars. One in nine has a letter beyond ASCII.
+const SPANISH: &str = "\
+de|la|que|el|en|y|los|se|del|las|por|con|una|su|para|es|al|lo|como|pero|sus|le|este|porque|esta|entre|\
+cuando|muy|sin|sobre|hasta|hay|donde|quien|desde|todo|nos|durante|todos|uno|les|contra|otros|ese|eso|ante|\
+ellos|antes|unos|otro|otras|tanto|mucho|nada|poco|estar|más|también|año|después|país|mañana|información";
 
 /// Common words. One in five has a letter beyond ASCII.
-const FRENCH: [&str; 60] = [
-    "de",
-    "la",
-    "le",
-    "et",
-    "les",
-    "des",
-    "en",
-    "un",
-    "du",
-    "une",
-    "que",
-    "est",
-    "pour",
-    "qui",
-    "dans",
-    "par",
-    "plus",
-    "pas",
-    "au",
-    "sur",
-    "ne",
-    "se",
-    "ce",
-    "il",
-    "sont",
-    "la",
-    "les",
-    "ou",
-    "avec",
-    "son",
-    "sa",
-    "mais",
-    "comme",
-    "on",
-    "tout",
-    "nous",
-    "vous",
-    "bien",
-    "sans",
-    "deux",
-    "ses",
-    "elle",
-    "fait",
-    "leur",
-    "temps",
-    "entre",
-    "depuis",
-    "encore",
-    "à",
-    "été",
-    "même",
-    "très",
-    "où",
-    "être",
-    "déjà",
-    "après",
-    "français",
-    "première",
-    "développement",
-    "théâtre",
-];
+const FRENCH: &str = "\
+de|la|le|et|les|des|en|un|du|une|que|est|pour|qui|dans|par|plus|pas|au|sur|ne|se|ce|il|sont|la|les|ou|avec|\
+son|sa|mais|comme|on|tout|nous|vous|bien|sans|deux|ses|elle|fait|leur|temps|entre|depuis|encore|à|été|même|\
+très|où|être|déjà|après|français|première|développement|théâtre";
 
 /// Common words. One in ten has a letter beyond ASCII.
-const GERMAN: [&str; 60] = [
-    "der", "die", "und", "in", "den", "von", "zu", "das", "mit", "sich", "des", "auf", "ist", "im",
-    "dem", "nicht", "ein", "eine", "als", "auch", "es", "an", "werden", "aus", "er", "hat", "dass",
-    "sie", "nach", "wird", "bei", "einer", "um", "am", "sind", "noch", "wie", "einem", "einen",
-    "so", "zum", "war", "haben", "nur", "oder", "aber", "vor", "zur", "bis", "mehr", "durch",
-    "man", "Haus", "Zeit", "für", "über", "können", "größte", "während", "Straße",
-];
+const GERMAN: &str = "\
+der|die|und|in|den|von|zu|das|mit|sich|des|auf|ist|im|dem|nicht|ein|eine|als|auch|es|an|werden|aus|er|hat|\
+dass|sie|nach|wird|bei|einer|um|am|sind|noch|wie|einem|einen|so|zum|war|haben|nur|oder|aber|vor|zur|bis|\
+mehr|durch|man|Haus|Zeit|für|über|können|größte|während|Straße";
 
-const ENGLISH: [&str; 60] = [
-    "the",
-    "of",
-    "and",
-    "to",
-    "in",
-    "is",
-    "that",
-    "for",
-    "it",
-    "was",
-    "on",
-    "with",
-    "as",
-    "be",
-    "by",
-    "this",
-    "are",
-    "have",
-    "from",
-    "or",
-    "not",
-    "but",
-    "they",
-    "which",
-    "one",
-    "you",
-    "had",
-    "were",
-    "all",
-    "their",
-    "there",
-    "been",
-    "many",
-    "some",
-    "so",
-    "these",
-    "would",
-    "other",
-    "into",
-    "has",
-    "more",
-    "her",
-    "two",
-    "like",
-    "him",
-    "see",
-    "time",
-    "could",
-    "make",
-    "than",
-    "first",
-    "water",
-    "little",
-    "people",
-    "number",
-    "between",
-    "important",
-    "something",
-    "through",
-    "different",
-];
+/// Common words.
+const ENGLISH: &str = "\
+the|of|and|to|in|is|that|for|it|was|on|with|as|be|by|this|are|have|from|or|not|but|they|which|one|you|had|\
+were|all|their|there|been|many|some|so|these|would|other|into|has|more|her|two|like|him|see|time|could|make|\
+than|first|water|little|people|number|between|important|something|through|different";
 
 /// English words and names with one letter beyond ASCII.
-const RARE: [&str; 8] = [
-    "café",
-    "naïve",
-    "façade",
-    "Müller",
-    "jalapeño",
-    "Zoë",
-    "São",
-    "fiancé",
-];
+const RARE: &str = "\
+café|naïve|façade|Müller|jalapeño|Zoë|São|fiancé";
 
 /// What comes before a name in code.
-const STATEMENTS: [&str; 6] = [
-    "return ",
-    "let value = ",
-    "if (first == ",
-    "state->count += ",
-    "} else if (!",
-    "while (",
-];
+const STATEMENTS: &str = "\
+return |let value = |if (first == |state->count += |} else if (!|while (";
 
 /// A page that is being written.
 #[derive(Drop)]
 struct Draft {
     text: String,
+    words: Vec<&'static str>,
+    rare: Vec<&'static str>,
+    statements: Vec<&'static str>,
     gap: usize,
     rare_at: usize,
 }
@@ -271,8 +82,17 @@ pub(crate) fn make_page(
         Page::English(gap) | Page::Code(gap) | Page::Json(gap) => gap,
         _ => 0,
     };
+    let words = match page {
+        Page::Spanish => SPANISH,
+        Page::French => FRENCH,
+        Page::German => GERMAN,
+        _ => ENGLISH,
+    };
     let mut draft = Draft {
         text: String::with_capacity(alloc, length + SPARE)?,
+        words: words_of(alloc, words)?,
+        rare: words_of(alloc, RARE)?,
+        statements: words_of(alloc, STATEMENTS)?,
         gap,
         rare_at: random.between(0, gap),
     };
@@ -285,18 +105,21 @@ pub(crate) fn make_page(
     Ok(draft.text)
 }
 
-/// Returns one of the words.
-fn one_of<'a>(words: &[&'a str], random: &mut Random) -> &'a str
-    requires { 0 < length words.now }
-{
-    words[random.below(words.len())]
+/// Returns the words of a table.
+fn words_of(alloc: Global, table: &'static str) -> Result<Vec<&'static str>, AllocError> {
+    let mut words = Vec::new(alloc);
+    for word in table.split('|') {
+        words.push(word)?;
+    }
+    Ok(words)
 }
 
-/// Returns a character of the block that starts at `first`.
-fn character(first: u32, count: usize, random: &mut Random) -> char
-    requires { (0 < count) × (count ≤ 0x10000) }
-{
-    char::from_u32(first.wrapping_add(random.below(count) as u32)).unwrap_or('?')
+/// Returns one of the words, or nothing if there are none.
+fn one_of(words: &[&'static str], random: &mut Random) -> &'static str {
+    if words.is_empty() {
+        return "";
+    }
+    words[random.below(words.len())]
 }
 
 impl Draft {
@@ -304,9 +127,7 @@ impl Draft {
     fn push_part(&mut self, page: Page, random: &mut Random) -> Result<(), AllocError> {
         match page {
             Page::Chinese | Page::Japanese | Page::Korean => self.push_message(page, random),
-            Page::Spanish => self.push_prose(&SPANISH, random),
-            Page::French => self.push_prose(&FRENCH, random),
-            Page::German => self.push_prose(&GERMAN, random),
+            Page::Spanish | Page::French | Page::German => self.push_prose(random),
             Page::English(_) => self.push_english(random),
             Page::Code(_) => self.push_code(random),
             Page::Json(_) => self.push_object(random),
@@ -363,11 +184,9 @@ impl Draft {
     }
 
     /// Appends some of the words.
-    fn push_prose(&mut self, words: &[&str], random: &mut Random) -> Result<(), AllocError>
-        requires { 0 < length words.now }
-    {
+    fn push_prose(&mut self, random: &mut Random) -> Result<(), AllocError> {
         for _ in 0..5 + random.below(20) {
-            self.text.push_str(one_of(words, random))?;
+            self.text.push_str(one_of(&self.words, random))?;
             self.push_space(random)?;
         }
         Ok(())
@@ -377,11 +196,11 @@ impl Draft {
     fn push_word(&mut self, random: &mut Random) -> Result<(), AllocError> {
         let length = self.text.len();
         if length < self.rare_at {
-            return self.text.push_str(one_of(&ENGLISH, random));
+            return self.text.push_str(one_of(&self.words, random));
         }
         let gap = (self.gap / 2).wrapping_add(random.between(0, self.gap));
         self.rare_at = length.wrapping_add(gap);
-        self.text.push_str(one_of(&RARE, random))
+        self.text.push_str(one_of(&self.rare, random))
     }
 
     /// Appends some English words.
@@ -403,10 +222,10 @@ impl Draft {
             self.push_english(random)?;
             return self.text.push('\n');
         }
-        self.text.push_str(one_of(&STATEMENTS, random))?;
-        self.text.push_str(one_of(&ENGLISH, random))?;
+        self.text.push_str(one_of(&self.statements, random))?;
+        self.text.push_str(one_of(&self.words, random))?;
         self.text.push('_')?;
-        self.text.push_str(one_of(&ENGLISH, random))?;
+        self.text.push_str(one_of(&self.words, random))?;
         self.text.push_str("(\"")?;
         self.push_word(random)?;
         self.text.push(' ')?;
@@ -417,7 +236,7 @@ impl Draft {
     /// Appends an object of three strings.
     fn push_object(&mut self, random: &mut Random) -> Result<(), AllocError> {
         self.text.push_str("  {\"kind\": \"")?;
-        self.text.push_str(one_of(&ENGLISH, random))?;
+        self.text.push_str(one_of(&self.words, random))?;
         self.text.push_str("\", \"title\": \"")?;
         self.push_word(random)?;
         self.text.push(' ')?;

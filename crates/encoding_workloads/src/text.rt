@@ -80,7 +80,7 @@ fn push_part(text: &mut String, kind: Kind, random: &mut Random) -> Result<(), A
 }
 
 /// Returns a character of the block that starts at `first`.
-fn character(first: u32, count: usize, random: &mut Random) -> char
+pub(crate) fn character(first: u32, count: usize, random: &mut Random) -> char
     requires { (0 < count) × (count ≤ 0x10000) }
 {
     char::from_u32(first.wrapping_add(random.below(count) as u32)).unwrap_or('?')

@@ -1,6 +1,9 @@
 //! Bytes in pieces of each length, repaired separately and joined, and the offsets of their malformed sequences.
 
+ghost use Rattle.std.specs.Prelude.{◌<◌};
+
 use cuts_example::{malformed_indices, repair_apart, text_of_pieces};
+use std::alloc::{AllocError, Global};
 use std::test::Fail;
 
 /// Bytes, their text by the Encoding Standard's UTF-8 decoder, and the offsets and lengths of their malformed
@@ -21,23 +24,31 @@ const ROWS: [(&[u8], &str, &[(usize, usize)]); 5] = [
     (b"\xE2\x98\x83\xF0\x9F\x92\xA9", "\u{2603}\u{1F4A9}", &[]),
 ];
 
+/// Returns whether bytes in pieces of this length are repaired to the text, with as many malformed sequences.
+pub(crate) fn are_repaired(
+    alloc: Global,
+    bytes: &[u8],
+    text: &[u8],
+    count: usize,
+    least: usize,
+) -> Result<bool, AllocError>
+    requires { 0 < least }
+{
+    let whole = repair_apart(alloc, bytes, least)?;
+    let joined = text_of_pieces(alloc, bytes, least)?;
+    Ok(whole.text.as_slice() == text && whole.replaced == count as u64 && joined.as_bytes() == text)
+}
+
 #[test]
-fn repairs_in_pieces_of_each_length(rt: HostRuntime) -> Result<(), Fail> {
+fn repairs_in_pieces_of_each_length(rt: HostRuntime) -> Result<(), AllocError> {
     for (bytes, text, places) in &ROWS {
         let found = malformed_indices(rt.alloc(), bytes)?;
-        assert!(rt;
-            found.as_slice() == *places,
-            "malformed sequences of {text}"
-        );
+        let mut holds = found.as_slice() == *places;
         for least in 1..14 {
-            let whole = repair_apart(rt.alloc(), bytes, least)?;
-            assert!(rt;
-                whole.text.as_slice() == text.as_bytes() && whole.replaced == places.len() as u64,
-                "{text} in pieces of {least}"
-            );
-            let joined = text_of_pieces(rt.alloc(), bytes, least)?;
-            assert!(rt; joined.as_str() == *text, "{text} as a text of {least}");
+            let (text, count) = (text.as_bytes(), places.len());
+            holds = holds && are_repaired(rt.alloc(), bytes, text, count, least)?;
         }
+        assert!(rt; holds, "{text}");
     }
     Ok(())
 }

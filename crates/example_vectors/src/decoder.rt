@@ -1,6 +1,6 @@
 //! Streams with and without byte order marks and malformed sequences, in pieces of every length.
 
-use decoder_example::decode_stream;
+use decoder_example::{decode_stream, read_marked_text};
 use encoding_streams::encoding::Encoding;
 use std::test::Fail;
 
@@ -40,14 +40,38 @@ fn decodes_pieces_of_every_length(rt: HostRuntime) -> Result<(), Fail> {
         for length in 1..bytes.len() + 2 {
             let stream = decode_stream(rt.alloc(), Encoding::Utf8, *bytes, length)?;
             assert!(rt;
-                stream.text.as_slice() == text.as_bytes(),
-                "{text} in pieces of {length}"
-            );
-            assert!(rt;
-                stream.encoding == *encoding && stream.replaced == *replaced,
+                stream.text.as_slice() == text.as_bytes()
+                    && stream.encoding == *encoding
+                    && stream.replaced == *replaced,
                 "{text} in pieces of {length}"
             );
         }
     }
+    Ok(())
+}
+
+#[test]
+fn reads_marked_texts(rt: HostRuntime) -> Result<(), Fail> {
+    for (bytes, _, text, _) in &ROWS {
+        let read = read_marked_text(rt.alloc(), *bytes, Encoding::Utf8)?;
+        assert!(rt; read.as_str() == *text, "{text}");
+    }
+    Ok(())
+}
+
+/// A text that is longer than the reader's blocks, which cut its characters.
+#[test]
+fn reads_a_long_marked_text(rt: HostRuntime) -> Result<(), Fail> {
+    let mut bytes = Vec::new(rt.alloc());
+    bytes.extend_from_slice(b"\xFF\xFEa")?;
+    let mut text = String::new(rt.alloc());
+    for _ in 0..1_100 {
+        bytes.extend_from_slice(b"\0\x3D\xD8\xA9\xDCa")?;
+        text.push_str("a\u{1F4A9}")?;
+    }
+    bytes.push(0)?;
+    text.push_str("a")?;
+    let read = read_marked_text(rt.alloc(), bytes.as_slice(), Encoding::Utf8)?;
+    assert!(rt; read.as_bytes() == text.as_bytes());
     Ok(())
 }

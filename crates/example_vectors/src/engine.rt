@@ -1,11 +1,14 @@
-//! Blocks of UTF-16 from pieces of UTF-8, and back. And the repair of code units, their UTF-8, at once and by turns, and
-//! whether they have right-to-left characters.
+//! Blocks of UTF-16 from pieces of UTF-8, and back. And the repair of code units, their UTF-8, at once and by turns,
+//! and whether they have right-to-left characters.
+
+ghost use Rattle.std.specs.Prelude.{◌<◌};
 
 use engine_example::turns::{text_by_turns, utf8_by_turns};
 use engine_example::units::{
     has_right_to_left, is_repaired, is_text, text_has_right_to_left, text_of_units, utf8_of_units,
 };
 use engine_example::{block_of_text, blocks_of_utf8, utf8_of_blocks};
+use std::alloc::{AllocError, Global};
 use std::test::Fail;
 
 /// UTF-8, and its code units by the Encoding Standard's UTF-8 decoder.
@@ -28,33 +31,46 @@ const ROWS: [(&[u8], &[u16], &str); 4] = [
     ),
 ];
 
+/// Returns whether bytes in pieces of this length become blocks of the code units, and these the text, as they came
+/// and in blocks of this length.
+pub(crate) fn are_converted(
+    alloc: Global,
+    bytes: &[u8],
+    units: &[u16],
+    text: &[u8],
+    length: usize,
+) -> Result<bool, AllocError>
+    requires { 0 < length }
+{
+    let mut pieces = Vec::new(alloc);
+    for piece in bytes.chunks(length) {
+        pieces.push(piece)?;
+    }
+    let came = blocks_of_utf8(alloc, &pieces)?;
+    let mut all = Vec::new(alloc);
+    for block in &came {
+        all.extend_from_slice(block)?;
+    }
+    let mut blocks = Vec::new(alloc);
+    for block in all.chunks(length) {
+        let mut own = Vec::new(alloc);
+        own.extend_from_slice(block)?;
+        blocks.push(own)?;
+    }
+    let back = utf8_of_blocks(alloc, &came)?;
+    let again = utf8_of_blocks(alloc, &blocks)?;
+    Ok(all.as_slice() == units && back.as_slice() == text && again.as_slice() == text)
+}
+
 #[test]
-fn goes_there_and_back_in_pieces_of_each_length(rt: HostRuntime) -> Result<(), Fail> {
+fn goes_there_and_back_in_pieces_of_each_length(rt: HostRuntime) -> Result<(), AllocError> {
     for (bytes, units, text) in &ROWS {
-        let block = block_of_text(rt.alloc(), text)?;
-        assert!(rt; block.as_slice() == *units, "{text} as one block");
+        let mut holds = block_of_text(rt.alloc(), text)?.as_slice() == *units;
         for length in 1..12 {
-            let mut pieces = Vec::new(rt.alloc());
-            for piece in bytes.chunks(length) {
-                pieces.push(piece)?;
-            }
-            let mut all = Vec::new(rt.alloc());
-            for block in &blocks_of_utf8(rt.alloc(), &pieces)? {
-                all.extend_from_slice(block)?;
-            }
-            assert!(rt; all.as_slice() == *units, "{text} in pieces of {length}");
-            let mut blocks = Vec::new(rt.alloc());
-            for block in all.chunks(length) {
-                let mut own = Vec::new(rt.alloc());
-                own.extend_from_slice(block)?;
-                blocks.push(own)?;
-            }
-            let back = utf8_of_blocks(rt.alloc(), &blocks)?;
-            assert!(rt;
-                back.as_slice() == text.as_bytes(),
-                "{text} in blocks of {length}"
-            );
+            let text = text.as_bytes();
+            holds = holds && are_converted(rt.alloc(), bytes, units, text, length)?;
         }
+        assert!(rt; holds, "{text}");
     }
     Ok(())
 }
@@ -94,33 +110,45 @@ const UNIT_ROWS: [(&[u16], &[u16], &str, bool); 5] = [
     (&[0xDC00, 0x5D0], &[0xFFFD, 0x5D0], "\u{FFFD}\u{5D0}", true),
 ];
 
+/// Returns what of a row doesn't hold, or nothing.
+fn failing_part(
+    alloc: Global,
+    units: &[u16],
+    repaired: &[u16],
+    text: &str,
+    right_to_left: bool,
+) -> Result<&'static str, AllocError> {
+    let mut own = Vec::new(alloc);
+    own.extend_from_slice(units)?;
+    let bytes = text.as_bytes();
+    Ok(if utf8_of_units(alloc, &own)?.as_slice() != bytes {
+        "UTF-8"
+    } else if text_of_units(alloc, &own)?.as_bytes() != bytes {
+        "the text of its units"
+    } else if utf8_by_turns(alloc, &own)?.as_slice() != bytes {
+        "UTF-8 by turns"
+    } else if text_by_turns(alloc, &own)?.as_bytes() != bytes {
+        "the text by turns"
+    } else if is_text(&own) != (units == repaired) {
+        "valid units"
+    } else if !is_repaired(alloc, &own, repaired)? {
+        "as it was kept"
+    } else if text_has_right_to_left(text) != right_to_left {
+        "right to left"
+    } else if has_right_to_left(&mut own) != right_to_left {
+        "units right to left"
+    } else if own.as_slice() != repaired {
+        "repaired units"
+    } else {
+        ""
+    })
+}
+
 #[test]
-fn repairs_and_writes_each_row(rt: HostRuntime) -> Result<(), Fail> {
+fn repairs_and_writes_each_row(rt: HostRuntime) -> Result<(), AllocError> {
     for (units, repaired, text, right_to_left) in &UNIT_ROWS {
-        let mut own = Vec::new(rt.alloc());
-        own.extend_from_slice(units)?;
-        let bytes = utf8_of_units(rt.alloc(), &own)?;
-        assert!(rt; bytes.as_slice() == text.as_bytes(), "UTF-8 of {text}");
-        let whole = text_of_units(rt.alloc(), &own)?;
-        assert!(rt; whole.as_str() == *text, "the text {text} of its units");
-        let bytes = utf8_by_turns(rt.alloc(), &own)?;
-        assert!(rt; bytes.as_slice() == text.as_bytes(), "{text} by turns");
-        let by_turns = text_by_turns(rt.alloc(), &own)?;
-        assert!(rt; by_turns.as_str() == *text, "the text {text} by turns");
-        assert!(rt;
-            is_text(&own) == (*units == *repaired),
-            "valid units of {text}"
-        );
-        assert!(rt;
-            is_repaired(rt.alloc(), &own, repaired)?,
-            "{text} as it was kept"
-        );
-        assert!(rt; text_has_right_to_left(text) == *right_to_left, "{text}");
-        assert!(rt;
-            has_right_to_left(&mut own) == *right_to_left,
-            "units of {text}"
-        );
-        assert!(rt; own.as_slice() == *repaired, "repaired units of {text}");
+        let failing = failing_part(rt.alloc(), units, repaired, text, *right_to_left)?;
+        assert!(rt; failing.is_empty(), "{failing} of {text}");
     }
     Ok(())
 }

@@ -1,6 +1,7 @@
 //! Rows of windows-1252.
 
 use legacy_example::{windows_1252_to_utf8, windows_1252_to_utf16};
+use std::alloc::{AllocError, Global};
 use std::test::Fail;
 
 /// Bytes, and their text by the Encoding Standard's index windows-1252.
@@ -24,6 +25,27 @@ const ROWS: [(&[u8], &str); 5] = [
     ),
 ];
 
+/// Returns whether bytes are decoded to this text in UTF-8 and in UTF-16, and what is after it is unchanged.
+fn are_decoded(alloc: Global, bytes: &[u8], text: &str) -> Result<bool, AllocError> {
+    if bytes.len() >= 128 {
+        return Ok(false);
+    }
+    let mut expected = Vec::new(alloc);
+    for unit in text.encode_utf16() {
+        expected.push(unit)?;
+    }
+    expected.push(0x2A)?;
+    let (mut utf8, mut units) = ([0x2A; 384], [0x2A; 128]);
+    let written = windows_1252_to_utf8(bytes, &mut utf8);
+    windows_1252_to_utf16(bytes, &mut units);
+    Ok(
+        utf8.starts_with(text.as_bytes())
+            && written == text.len()
+            && utf8.get(written) == Some(&0x2A)
+            && units.starts_with(&expected),
+    )
+}
+
 #[test]
 fn decodes_concatenated_rows(rt: HostRuntime) -> Result<(), Fail> {
     for (first, first_text) in &ROWS {
@@ -32,22 +54,7 @@ fn decodes_concatenated_rows(rt: HostRuntime) -> Result<(), Fail> {
             bytes.extend_from_slice(first)?;
             bytes.extend_from_slice(second)?;
             let text = format!(in rt.alloc(); "{first_text}{second_text}")?;
-            let mut expected = Vec::new(rt.alloc());
-            for unit in text.encode_utf16() {
-                expected.push(unit)?;
-            }
-            expected.push(0x2A)?;
-            let (mut utf8, mut units) = ([0x2A; 384], [0x2A; 128]);
-            assert!(rt; bytes.len() < 128, "{text} is longer than the destinations");
-            let written = windows_1252_to_utf8(&bytes, &mut utf8);
-            assert!(rt;
-                utf8.starts_with(text.as_bytes())
-                    && written == text.len()
-                    && utf8.get(written) == Some(&0x2A),
-                "{text}"
-            );
-            windows_1252_to_utf16(&bytes, &mut units);
-            assert!(rt; units.starts_with(&expected), "{text}");
+            assert!(rt; are_decoded(rt.alloc(), &bytes, &text)?, "{text}");
         }
     }
     Ok(())

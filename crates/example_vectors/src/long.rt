@@ -1,14 +1,15 @@
-//! Each example on more than 1 MiB, which is longer than every buffer: copies of one row, whose result is as many copies
-//! of the row's.
-ghost use Rattle.std.specs.Prelude.{◌<◌};
+//! Each example on more than 1 MiB, which is longer than every buffer: copies of one row, whose result is as many
+//! copies of the row's.
 
-use cuts_example::{malformed_indices, repair_apart, text_of_pieces};
+use crate::cuts::are_repaired;
+use crate::engine::are_converted;
+use cuts_example::malformed_indices;
 use decoder_example::decode_stream;
 use encoding_runs::reader::{Utf8Reader, Utf16Reader};
 use encoding_streams::encoding::{CoderResult, Encoding};
+use engine_example::block_of_text;
 use engine_example::turns::utf8_by_turns;
 use engine_example::units::{has_right_to_left, is_repaired, is_text, utf8_of_units};
-use engine_example::{block_of_text, blocks_of_utf8, utf8_of_blocks};
 use legacy_example::{windows_1252_to_utf8, windows_1252_to_utf16};
 use reader_example::{is_well_formed, read_text};
 use std::alloc::{AllocError, Global};
@@ -50,29 +51,16 @@ fn units_of(alloc: Global, row: &[u16]) -> Result<Vec<u16>, AllocError> {
     Ok(units)
 }
 
-/// Returns whether bytes in pieces of this length are repaired to the text, with a malformed sequence in each copy.
-fn are_repaired(alloc: Global, bytes: &[u8], text: &[u8], least: usize) -> Result<bool, AllocError>
-    requires { 0 < least }
-{
-    let whole = repair_apart(alloc, bytes, least)?;
-    let joined = text_of_pieces(alloc, bytes, least)?;
-    Ok(
-        whole.text.as_slice() == text
-            && whole.replaced == COPIES as u64
-            && joined.as_bytes() == text,
-    )
-}
-
 #[test]
 fn repairs_in_pieces(rt: HostRuntime) -> Result<(), Fail> {
     let bytes = bytes_of(rt.alloc(), &BYTES)?;
     let text = bytes_of(rt.alloc(), TEXT.as_bytes())?;
     assert!(rt;
-        are_repaired(rt.alloc(), &bytes, &text, 1_000)?,
+        are_repaired(rt.alloc(), &bytes, &text, COPIES, 1_000)?,
         "in pieces of 1,000"
     );
     assert!(rt;
-        are_repaired(rt.alloc(), &bytes, &text, 2_000_000)?,
+        are_repaired(rt.alloc(), &bytes, &text, COPIES, 2_000_000)?,
         "in one piece"
     );
     let found = malformed_indices(rt.alloc(), &bytes)?;
@@ -137,29 +125,6 @@ fn reads_a_text(rt: HostRuntime) -> Result<(), Fail> {
     assert!(rt; is_well_formed(&mut text.as_slice())?, "the repaired text");
     assert!(rt; !is_well_formed(&mut bytes.as_slice())?, "the bytes");
     Ok(())
-}
-
-/// Returns whether bytes in pieces of this length become blocks of the code units, and these the text.
-fn are_converted(
-    alloc: Global,
-    bytes: &[u8],
-    units: &[u16],
-    text: &[u8],
-    length: usize,
-) -> Result<bool, AllocError>
-    requires { 0 < length }
-{
-    let mut pieces = Vec::new(alloc);
-    for piece in bytes.chunks(length) {
-        pieces.push(piece)?;
-    }
-    let blocks = blocks_of_utf8(alloc, &pieces)?;
-    let mut all = Vec::new(alloc);
-    for block in &blocks {
-        all.extend_from_slice(block)?;
-    }
-    let back = utf8_of_blocks(alloc, &blocks)?;
-    Ok(all.as_slice() == units && back.as_slice() == text)
 }
 
 #[test]

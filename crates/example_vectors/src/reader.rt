@@ -2,6 +2,7 @@
 
 use encoding_runs::reader::{Utf8Reader, Utf16Reader};
 use reader_example::{is_well_formed, read_text};
+use std::alloc::{AllocError, Global};
 use std::io::{Error, ErrorKind, Read};
 use std::test::Fail;
 use std::{io, str};
@@ -78,7 +79,7 @@ fn reads_texts_longer_than_each_buffer(rt: HostRuntime) -> Result<(), Fail> {
     }
     let mut rest = bytes.as_slice();
     assert!(rt; is_well_formed(&mut rest)?, "all of a long text");
-    assert_eq!(rt; rest.len(), 0, "bytes left of a long text");
+    assert!(rt; rest.is_empty(), "bytes left of a long text");
     let text = read_text(rt.alloc(), bytes.as_slice())?;
     assert!(rt; text.as_bytes() == bytes.as_slice(), "a long text");
     bytes.push(0xF0)?;
@@ -87,52 +88,86 @@ fn reads_texts_longer_than_each_buffer(rt: HostRuntime) -> Result<(), Fail> {
     Ok(())
 }
 
+/// Returns whether a reader that fails now and then yields the text into destinations of this length, and no part of a
+/// character into one of at least four bytes.
+fn yields_utf8(
+    alloc: Global,
+    bytes: &[u8],
+    text: &str,
+    step: usize,
+    room: usize,
+) -> Result<bool, AllocError> {
+    let mut reader = Utf8Reader::new(Faulty {
+        rest: bytes,
+        step,
+        fails: false,
+    });
+    let mut yielded = Vec::new(alloc);
+    let mut buffer = [0; 8];
+    let mut whole = true;
+    for _ in 0..48 {
+        let Some(space) = buffer.get_mut(..room) else {
+            return Ok(false);
+        };
+        if let Ok(count) = reader.read(space) {
+            let came = buffer.get(..count).unwrap_or_default();
+            yielded.extend_from_slice(came)?;
+            whole = whole && (room < 4 || str::from_utf8(came).is_ok());
+        }
+    }
+    Ok(whole && yielded.as_slice() == text.as_bytes())
+}
+
 #[test]
-fn yields_utf8_into_each_room_past_faults(rt: HostRuntime) -> Result<(), Fail> {
+fn yields_utf8_into_each_room_past_faults(rt: HostRuntime) -> Result<(), AllocError> {
     for (bytes, text, _) in &ROWS {
         for step in 1..6 {
             for room in 1..9 {
-                let mut reader = Utf8Reader::new(Faulty {
-                    rest: *bytes,
-                    step,
-                    fails: false,
-                });
-                let mut yielded = Vec::new(rt.alloc());
-                let mut buffer = [0; 8];
-                for _ in 0..48 {
-                    if let Ok(count) = reader.read(&mut buffer[..room]) {
-                        yielded.extend_from_slice(&buffer[..count])?;
-                        assert!(rt;
-                            room < 4 || str::from_utf8(&buffer[..count]).is_ok(),
-                            "{text} cut into {room}"
-                        );
-                    }
-                }
-                assert!(rt; yielded.as_slice() == text.as_bytes(), "{text} into {room}");
+                assert!(rt;
+                    yields_utf8(rt.alloc(), bytes, text, step, room)?,
+                    "{text} into {room}"
+                );
             }
         }
     }
     Ok(())
 }
 
+/// Returns whether such a reader yields the code units into destinations of this length.
+fn yields_utf16(
+    alloc: Global,
+    bytes: &[u8],
+    units: &[u16],
+    step: usize,
+    room: usize,
+) -> Result<bool, AllocError> {
+    let mut reader = Utf16Reader::new(Faulty {
+        rest: bytes,
+        step,
+        fails: false,
+    });
+    let mut yielded = Vec::new(alloc);
+    let mut buffer = [0; 6];
+    for _ in 0..48 {
+        let Some(space) = buffer.get_mut(..room) else {
+            return Ok(false);
+        };
+        if let Ok(count) = reader.read(space) {
+            yielded.extend_from_slice(buffer.get(..count).unwrap_or_default())?;
+        }
+    }
+    Ok(yielded.as_slice() == units)
+}
+
 #[test]
-fn yields_utf16_into_each_room_past_faults(rt: HostRuntime) -> Result<(), Fail> {
+fn yields_utf16_into_each_room_past_faults(rt: HostRuntime) -> Result<(), AllocError> {
     for (bytes, text, units) in &ROWS {
         for step in 1..6 {
             for room in 1..7 {
-                let mut reader = Utf16Reader::new(Faulty {
-                    rest: *bytes,
-                    step,
-                    fails: false,
-                });
-                let mut yielded = Vec::new(rt.alloc());
-                let mut buffer = [0; 6];
-                for _ in 0..48 {
-                    if let Ok(count) = reader.read(&mut buffer[..room]) {
-                        yielded.extend_from_slice(&buffer[..count])?;
-                    }
-                }
-                assert!(rt; yielded.as_slice() == *units, "{text} into {room}");
+                assert!(rt;
+                    yields_utf16(rt.alloc(), bytes, units, step, room)?,
+                    "{text} into {room}"
+                );
             }
         }
     }

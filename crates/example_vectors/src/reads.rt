@@ -1,11 +1,12 @@
 //! How often readers of text read the reader inside, and what they make of its errors.
 
+use crate::assertions::assert_rows;
 use encoding_runs::reader::{Utf8Reader, Utf16Reader};
 use reader_example::{is_well_formed, read_text};
 use std::alloc::Global;
 use std::io;
 use std::io::{Error, ErrorKind, Read};
-use std::test::Fail;
+use test_support::rows::{Row, Table};
 
 /// Returns its bytes, `step` per read, and counts its reads. With an error it fails at each second read, the first one
 /// included.
@@ -47,12 +48,12 @@ impl Read for Counted<'_> {
     }
 }
 
-/// What a row has for an error of the kind that the inner reader returned, and for any other.
+/// What an error of the kind that the inner reader returned counts as, and any other.
 const FAILS: usize = 100;
 
 const FAILS_OTHERWISE: usize = 200;
 
-/// Returns the count of a read, or what a row has for its error.
+/// Returns the count of a read, or what its error counts as.
 fn answer_of(returned: io::Result<usize>, fault: Option<ErrorKind>) -> usize {
     match returned {
         Ok(count) => count,
@@ -66,51 +67,48 @@ fn answer_of(returned: io::Result<usize>, fault: Option<ErrorKind>) -> usize {
     }
 }
 
-/// The bytes of the inner reader, how many it returns per read, and its error; the length of the destination of each
-/// call; and for each call how many reads were made so far, and its answer. An answer is a count of bytes.
-const UTF8_ROWS: [(&[u8], usize, Option<ErrorKind>, usize, &[(usize, usize)]); 12] = [
-    (b"", 1, None, 8, &[(1, 0), (2, 0), (3, 0)]),
-    (b"ab", 2, None, 8, &[(1, 2), (2, 0), (3, 0)]),
-    (b"ab", 2, None, 0, &[(0, 0), (0, 0), (0, 0)]),
-    (b"ab", 2, None, 1, &[(1, 1), (1, 1), (2, 0), (3, 0)]),
-    (b"ab", 1, None, 8, &[(1, 1), (2, 1), (3, 0), (4, 0)]),
-    (b"\xE2\x98\x83", 1, None, 8, &[(3, 3), (4, 0), (5, 0)]),
-    (b"\xE2\x98\x83", 1, None, 2, &[(3, 2), (3, 1), (4, 0)]),
-    (b"\xE2\x98", 1, None, 8, &[(3, 3), (4, 0), (5, 0)]),
-    (b"\xE2\x98", 2, None, 2, &[(2, 2), (2, 1), (3, 0)]),
-    (
-        b"ab",
-        2,
-        Some(ErrorKind::Interrupted),
-        8,
-        &[(1, FAILS), (2, 2), (3, FAILS), (4, 0), (5, FAILS)],
-    ),
-    (
-        b"ab",
-        2,
-        Some(ErrorKind::Interrupted),
-        1,
-        &[(1, FAILS), (2, 1), (2, 1), (3, FAILS), (4, 0)],
-    ),
-    (
-        b"\xE2\x98",
-        1,
-        Some(ErrorKind::Interrupted),
-        8,
-        &[(1, FAILS), (3, FAILS), (5, FAILS), (6, 3), (7, FAILS)],
-    ),
-];
+/// The bytes of the inner reader, how many it returns per read, and whether it fails; the length of the destination of
+/// each call; and for each call how many reads were made so far, and its answer. An answer is a count of bytes, or 100
+/// for an error of the inner reader.
+const UTF8_ROWS: &str = "\
+| 1 | sound | 8 | 1 0, 2 0, 3 0
+61 62 | 2 | sound | 8 | 1 2, 2 0, 3 0
+61 62 | 2 | sound | 0 | 0 0, 0 0, 0 0
+61 62 | 2 | sound | 1 | 1 1, 1 1, 2 0, 3 0
+61 62 | 1 | sound | 8 | 1 1, 2 1, 3 0, 4 0
+E2 98 83 | 1 | sound | 8 | 3 3, 4 0, 5 0
+E2 98 83 | 1 | sound | 2 | 3 2, 3 1, 4 0
+E2 98 | 1 | sound | 8 | 3 3, 4 0, 5 0
+E2 98 | 2 | sound | 2 | 2 2, 2 1, 3 0
+61 62 | 2 | fails | 8 | 1 100, 2 2, 3 100, 4 0, 5 100
+61 62 | 2 | fails | 1 | 1 100, 2 1, 2 1, 3 100, 4 0
+E2 98 | 1 | fails | 8 | 1 100, 3 100, 5 100, 6 3, 7 100";
 
-/// Returns how many reads were made in some calls into a destination, and the answer of the last call.
+/// Rows as in `UTF8_ROWS`, of a reader of code units: an answer is their count.
+const UTF16_ROWS: &str = "\
+| 1 | sound | 8 | 1 0, 2 0, 3 0
+61 62 | 2 | sound | 8 | 1 2, 2 0, 3 0
+61 62 | 2 | sound | 0 | 0 0, 0 0, 0 0
+61 62 | 2 | sound | 1 | 1 1, 1 1, 2 0, 3 0
+F0 9F 92 A9 | 4 | sound | 1 | 1 1, 1 1, 2 0
+E2 98 | 1 | sound | 8 | 3 1, 4 0, 5 0
+E2 98 | 2 | sound | 1 | 2 1, 3 0, 4 0
+61 62 | 2 | fails | 8 | 1 100, 2 2, 3 100, 4 0, 5 100
+61 62 | 2 | fails | 1 | 1 100, 2 1, 2 1, 3 100, 4 0";
+
+/// Returns how many reads were made in some calls into a destination of at most eight bytes, and the answer of the
+/// last call.
 fn utf8_answer(
     bytes: &[u8],
     step: usize,
     fault: Option<ErrorKind>,
-    dst: &mut [u8],
+    room: usize,
     calls: usize,
 ) -> (usize, usize) {
     let mut inner = Counted::of(bytes, step, fault);
     let mut reader = Utf8Reader::new(&mut inner);
+    let mut dst = [0; 8];
+    let (dst, _) = dst.split_at_mut(room.min(8));
     let mut answer = 0;
     for _ in 0..calls {
         answer = answer_of(reader.read(dst), fault);
@@ -119,57 +117,18 @@ fn utf8_answer(
     (inner.reads, answer)
 }
 
-#[test]
-fn counts_reads_to_utf8(rt: HostRuntime) {
-    for (bytes, step, fault, room, answers) in &UTF8_ROWS {
-        let mut dst = [0; 8];
-        let (dst, _) = dst.split_at_mut((*room).min(8));
-        for (earlier, wanted) in answers.iter().enumerate() {
-            let answer = utf8_answer(bytes, *step, *fault, dst, earlier.saturating_add(1));
-            assert!(rt;
-                answer == *wanted,
-                "{bytes:?}, {step} per read, into {room}, after {earlier} calls"
-            );
-        }
-    }
-    assert!(rt; UTF8_ROWS.len() == 12);
-}
-
-/// Rows as in `UTF8_ROWS`, of a reader of code units: an answer is their count.
-const UTF16_ROWS: [(&[u8], usize, Option<ErrorKind>, usize, &[(usize, usize)]); 9] = [
-    (b"", 1, None, 8, &[(1, 0), (2, 0), (3, 0)]),
-    (b"ab", 2, None, 8, &[(1, 2), (2, 0), (3, 0)]),
-    (b"ab", 2, None, 0, &[(0, 0), (0, 0), (0, 0)]),
-    (b"ab", 2, None, 1, &[(1, 1), (1, 1), (2, 0), (3, 0)]),
-    (b"\xF0\x9F\x92\xA9", 4, None, 1, &[(1, 1), (1, 1), (2, 0)]),
-    (b"\xE2\x98", 1, None, 8, &[(3, 1), (4, 0), (5, 0)]),
-    (b"\xE2\x98", 2, None, 1, &[(2, 1), (3, 0), (4, 0)]),
-    (
-        b"ab",
-        2,
-        Some(ErrorKind::Interrupted),
-        8,
-        &[(1, FAILS), (2, 2), (3, FAILS), (4, 0), (5, FAILS)],
-    ),
-    (
-        b"ab",
-        2,
-        Some(ErrorKind::Interrupted),
-        1,
-        &[(1, FAILS), (2, 1), (2, 1), (3, FAILS), (4, 0)],
-    ),
-];
-
-/// Returns how many reads were made in some calls into a destination of code units, and the answer of the last call.
+/// Returns the same of a destination of code units.
 fn utf16_answer(
     bytes: &[u8],
     step: usize,
     fault: Option<ErrorKind>,
-    dst: &mut [u16],
+    room: usize,
     calls: usize,
 ) -> (usize, usize) {
     let mut inner = Counted::of(bytes, step, fault);
     let mut reader = Utf16Reader::new(&mut inner);
+    let mut dst = [0; 8];
+    let (dst, _) = dst.split_at_mut(room.min(8));
     let mut answer = 0;
     for _ in 0..calls {
         answer = answer_of(reader.read(dst), fault);
@@ -178,45 +137,100 @@ fn utf16_answer(
     (inner.reads, answer)
 }
 
+/// Returns whether the calls of a row have their answers.
+fn answers_are(row: &mut Row<'_>, to_utf16: bool) -> bool {
+    let bytes = row.bytes();
+    let step = row.number();
+    let fault = if row.word() == "fails" {
+        Some(ErrorKind::Interrupted)
+    } else {
+        None
+    };
+    let room = row.number();
+    let mut calls = 0usize;
+    let mut holds = true;
+    for wanted in row.word().split(',') {
+        calls = calls.saturating_add(1);
+        let (reads, answer) = wanted.trim().split_once(' ').unwrap_or(("", ""));
+        let wanted = (row.number_of(reads), row.number_of(answer));
+        let bytes = bytes.as_slice();
+        let answer = if to_utf16 {
+            utf16_answer(bytes, step, fault, room, calls)
+        } else {
+            utf8_answer(bytes, step, fault, room, calls)
+        };
+        holds = holds && answer == wanted;
+    }
+    holds
+}
+
+#[derive(Drop)]
+struct ToUtf8;
+
+impl Table for ToUtf8 {
+    const ROWS: &'static str = UTF8_ROWS;
+
+    const COUNT: usize = 12;
+
+    fn holds(&mut self, row: &mut Row<'_>) -> bool {
+        answers_are(row, false)
+    }
+}
+
+#[test]
+fn counts_reads_to_utf8(rt: HostRuntime) {
+    assert_rows(&rt, &mut ToUtf8);
+}
+
+#[derive(Drop)]
+struct ToUtf16;
+
+impl Table for ToUtf16 {
+    const ROWS: &'static str = UTF16_ROWS;
+
+    const COUNT: usize = 9;
+
+    fn holds(&mut self, row: &mut Row<'_>) -> bool {
+        answers_are(row, true)
+    }
+}
+
 #[test]
 fn counts_reads_to_utf16(rt: HostRuntime) {
-    for (bytes, step, fault, room, answers) in &UTF16_ROWS {
-        let mut dst = [0; 8];
-        let (dst, _) = dst.split_at_mut((*room).min(8));
-        for (earlier, wanted) in answers.iter().enumerate() {
-            let answer = utf16_answer(bytes, *step, *fault, dst, earlier.saturating_add(1));
-            assert!(rt;
-                answer == *wanted,
-                "{bytes:?}, {step} per read, into {room}, after {earlier} calls"
-            );
-        }
-    }
-    assert!(rt; UTF16_ROWS.len() == 9);
+    assert_rows(&rt, &mut ToUtf16);
 }
 
 /// Bytes, how many are returned per read, how many reads are made, and whether the bytes are well-formed.
-const WELL_FORMED_ROWS: [(&[u8], usize, usize, bool); 7] = [
-    (b"", 1, 1, true),
-    (b"ab", 1, 3, true),
-    (b"ab", 2, 2, true),
-    (b"a\xFFb", 1, 2, false),
-    (b"a\xFFb", 3, 1, false),
-    (b"\xE2\x98", 1, 3, false),
-    (b"\xE2\x98\x83", 2, 3, true),
-];
+const WELL_FORMED_ROWS: &str = "\
+| 1 | 1 | well-formed
+61 62 | 1 | 3 | well-formed
+61 62 | 2 | 2 | well-formed
+61 FF 62 | 1 | 2 | malformed
+61 FF 62 | 3 | 1 | malformed
+E2 98 | 1 | 3 | malformed
+E2 98 83 | 2 | 3 | well-formed";
+
+#[derive(Drop)]
+struct Checks;
+
+impl Table for Checks {
+    const ROWS: &'static str = WELL_FORMED_ROWS;
+
+    const COUNT: usize = 7;
+
+    fn holds(&mut self, row: &mut Row<'_>) -> bool {
+        let bytes = row.bytes();
+        let mut inner = Counted::of(bytes.as_slice(), row.number(), None);
+        let Ok(answer) = is_well_formed(&mut inner) else {
+            return false;
+        };
+        inner.reads == row.number() && answer == (row.word() == "well-formed")
+    }
+}
 
 #[test]
-fn counts_reads_of_a_check(rt: HostRuntime) -> Result<(), Fail> {
-    for (bytes, step, reads, whole) in &WELL_FORMED_ROWS {
-        let mut inner = Counted::of(bytes, *step, None);
-        let answer = is_well_formed(&mut inner)?;
-        assert!(rt;
-            inner.reads == *reads && answer == *whole,
-            "{bytes:?}, {step} per read"
-        );
-    }
-    assert!(rt; WELL_FORMED_ROWS.len() == 7);
-    Ok(())
+fn counts_reads_of_a_check(rt: HostRuntime) {
+    assert_rows(&rt, &mut Checks);
 }
 
 /// Kinds of errors that std returns for reads of files and sockets, and some that it doesn't.
@@ -253,30 +267,37 @@ fn text_answer(alloc: Global, fault: Option<ErrorKind>) -> (usize, usize) {
     (inner.reads, answer)
 }
 
-/// std's `read_to_string` reads again after `Interrupted`: three reads for `a`, `b` and the end, each after one that
-/// fails.
+/// Returns the call that doesn't pass on an error of this kind, or nothing. std's `read_to_string` reads again after
+/// `Interrupted`: three reads for `a`, `b` and the end, each after one that fails.
+fn failing_call(alloc: Global, kind: ErrorKind) -> &'static str {
+    let fault = Some(kind);
+    let of_text = if kind == ErrorKind::Interrupted {
+        (6, 2)
+    } else {
+        (1, FAILS)
+    };
+    if utf8_answer(b"ab", 1, fault, 1, 1) != (1, FAILS) {
+        "UTF-8 into 1"
+    } else if utf8_answer(b"ab", 1, fault, 8, 1) != (1, FAILS) {
+        "UTF-8 into 8"
+    } else if utf16_answer(b"ab", 1, fault, 1, 1) != (1, FAILS) {
+        "UTF-16 into 1"
+    } else if utf16_answer(b"ab", 1, fault, 8, 1) != (1, FAILS) {
+        "UTF-16 into 8"
+    } else if check_answer(fault) != (1, FAILS) {
+        "a check"
+    } else if text_answer(alloc, fault) != of_text {
+        "a text"
+    } else {
+        ""
+    }
+}
+
 #[test]
 fn passes_on_each_kind_of_error(rt: HostRuntime) {
     for kind in KINDS {
-        let fault = Some(kind);
-        let small = utf8_answer(b"ab", 1, fault, &mut [0; 1], 1);
-        assert!(rt; small == (1, FAILS), "UTF-8 into 1: {kind:?}");
-        let large = utf8_answer(b"ab", 1, fault, &mut [0; 8], 1);
-        assert!(rt; large == (1, FAILS), "UTF-8 into 8: {kind:?}");
-        let small = utf16_answer(b"ab", 1, fault, &mut [0; 1], 1);
-        assert!(rt; small == (1, FAILS), "UTF-16 into 1: {kind:?}");
-        let large = utf16_answer(b"ab", 1, fault, &mut [0; 8], 1);
-        assert!(rt; large == (1, FAILS), "UTF-16 into 8: {kind:?}");
-        assert!(rt; check_answer(fault) == (1, FAILS), "a check: {kind:?}");
-        let wanted = if kind == ErrorKind::Interrupted {
-            (6, 2)
-        } else {
-            (1, FAILS)
-        };
-        assert!(rt;
-            text_answer(rt.alloc(), fault) == wanted,
-            "a text: {kind:?}"
-        );
+        let failing = failing_call(rt.alloc(), kind);
+        assert!(rt; failing.is_empty(), "{failing}: {kind:?}");
     }
     assert!(rt; KINDS.len() == 10);
 }

@@ -6,8 +6,8 @@ use csv_example::read_records;
 use std::alloc::{AllocError, Global};
 use std::test::Fail;
 
-/// Bytes, and their records: a bar after each field, and a line feed after each record. They are those of Python's module
-/// `csv` over the text that `bytes.decode` returns with errors="replace", without the byte order mark.
+/// Bytes, and their records: a bar after each field, and a line feed after each record. They are those of Python's
+/// module `csv` over the text that `bytes.decode` returns with errors="replace", without the byte order mark.
 const ROWS: [(&[u8], &str); 6] = [
     (b"", ""),
     (b"a,b\n1,2\n", "a|b|\n1|2|\n"),
@@ -44,7 +44,7 @@ fn reads_records(rt: HostRuntime) -> Result<(), Fail> {
     for (bytes, records) in &ROWS {
         let read = read_records(rt.alloc(), *bytes)?;
         let text = shown(rt.alloc(), &read)?;
-        assert_eq!(rt; text.as_str(), *records);
+        assert!(rt; text.as_str() == *records, "{records}");
     }
     Ok(())
 }
@@ -58,7 +58,7 @@ fn reads_more_than_each_buffer(rt: HostRuntime) -> Result<(), Fail> {
         text.push_str("caf\u{FFFD}|\u{2603}|\n")?;
     }
     let read = read_records(rt.alloc(), bytes.as_slice())?;
-    assert_eq!(rt; read.len(), 3_000);
+    assert!(rt; read.len() == 3_000, "as many records");
     let shown = shown(rt.alloc(), &read)?;
     assert!(rt; shown == text, "the records of a long stream");
     Ok(())

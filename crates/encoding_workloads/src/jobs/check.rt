@@ -6,9 +6,9 @@ use crate::random::Random;
 use crate::text::Kind;
 use encoding_text::count::{repaired_utf8_length, utf8_count, utf16_count};
 use encoding_text::mem::{
-    Latin1Bidi, check_utf8_for_latin1_and_bidi, check_utf16_for_latin1_and_bidi, is_utf8_bidi,
-    is_utf16_bidi, latin1_length_from_utf8, utf8_latin1_up_to, utf8_length_from_latin1,
-    utf8_length_from_utf16, utf16_length_from_utf8, utf16_valid_up_to,
+    check_utf8_for_latin1_and_bidi, check_utf16_for_latin1_and_bidi, is_utf8_bidi, is_utf16_bidi,
+    latin1_length_from_utf8, utf8_latin1_up_to, utf8_length_from_latin1, utf8_length_from_utf16,
+    utf16_length_from_utf8, utf16_valid_up_to,
 };
 use encoding_text::utf_8::utf8_valid_up_to;
 use std::alloc::{AllocError, Global};
@@ -59,15 +59,6 @@ pub(super) fn run(
     Ok(())
 }
 
-/// Returns a number for a class.
-fn class_number(class: Latin1Bidi) -> usize {
-    match class {
-        Latin1Bidi::Latin1 => 0,
-        Latin1Bidi::LeftToRight => 1,
-        Latin1Bidi::Bidi => 2,
-    }
-}
-
 /// Checks a part of a text in UTF-8, whose last character may be cut.
 fn check_bytes(bytes: &[u8], random: &mut Random, digest: &mut Digest) {
     let part = window(bytes, WHOLE, random);
@@ -83,7 +74,7 @@ fn check_bytes(bytes: &[u8], random: &mut Random, digest: &mut Digest) {
     digest.number(utf8_valid_up_to(part));
     digest.number(utf8_latin1_up_to(part));
     digest.flag(is_utf8_bidi(part));
-    digest.number(class_number(check_utf8_for_latin1_and_bidi(part)));
+    digest.number(check_utf8_for_latin1_and_bidi(part) as usize);
 }
 
 /// Checks a part of a text in UTF-16.
@@ -91,7 +82,7 @@ fn check_units(units: &[u16], random: &mut Random, digest: &mut Digest) {
     let part = window(units, WHOLE, random);
     digest.number(utf16_valid_up_to(part));
     digest.flag(is_utf16_bidi(part));
-    digest.number(class_number(check_utf16_for_latin1_and_bidi(part)));
+    digest.number(check_utf16_for_latin1_and_bidi(part) as usize);
 }
 
 /// Computes how much space the conversions of a part need, and how many characters it has.

@@ -2,7 +2,7 @@
 
 ghost use Rattle.std.specs.Prelude.{◌≤◌, ◌<◌, ◌+◌, ◌-◌, length};
 
-use super::windows::{after, first, unit_texts, window};
+use super::windows::{after, first, texts, units_of, window};
 use crate::digest::Digest;
 use crate::random::Random;
 use crate::text::{Kind, make_text};
@@ -39,14 +39,17 @@ pub(super) fn run(
     random: &mut Random,
     digest: &mut Digest,
 ) -> Result<(), AllocError> {
-    let mut texts = unit_texts(alloc, &KINDS, random)?;
-    if let Some(units) = texts.last_mut() {
+    let mut all = Vec::new(alloc);
+    for text in texts(alloc, &KINDS, random)? {
+        all.push(units_of(alloc, text.as_str())?)?;
+    }
+    if let Some(units) = all.last_mut() {
         damage(units, random);
     }
     let mut bytes = vec![in alloc; 0; 3 * WHOLE]?;
     let mut text = make_text(alloc, Kind::Prose, ROOM, random)?;
     for _ in 0..rounds {
-        for units in &texts {
+        for units in &all {
             encode_stream(window(units, WHOLE, random), &mut bytes, random, digest);
             let document = window(units, WHOLE, random);
             fill_buffers(document, &mut bytes, digest);

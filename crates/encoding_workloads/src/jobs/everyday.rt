@@ -3,7 +3,7 @@
 
 ghost use Rattle.std.specs.Prelude.{◌≤◌, ◌<◌, ◌+◌, ◌-◌, length};
 
-use super::windows::{after, first, space_after};
+use super::windows::{after, first, latin1_of, space_after};
 use crate::digest::Digest;
 use crate::pages::{Page, make_page};
 use crate::random::Random;
@@ -150,12 +150,11 @@ pub(super) fn run(
 /// Returns a page in each form.
 fn make_forms(alloc: Global, page: Page, random: &mut Random) -> Result<Forms, AllocError> {
     let text = make_page(alloc, page, PAGE, random)?;
-    let mut latin1 = Vec::with_capacity(alloc, text.len())?;
-    if is_utf8_latin1(text.as_bytes()) {
-        for character in text.as_str().chars() {
-            latin1.push((u32::from(character) & 0xFF) as u8)?;
-        }
-    }
+    let latin1 = if is_utf8_latin1(text.as_bytes()) {
+        latin1_of(alloc, text.as_str())?
+    } else {
+        Vec::new(alloc)
+    };
     Ok(Forms { text, latin1 })
 }
 

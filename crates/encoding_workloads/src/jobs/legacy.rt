@@ -2,7 +2,7 @@
 
 ghost use Rattle.std.specs.Prelude.{◌≤◌, ◌<◌, ◌+◌, ◌-◌, length};
 
-use super::windows::{first, text_window, units_of, window};
+use super::windows::{first, latin1_of, text_window, units_of, window};
 use crate::digest::Digest;
 use crate::random::Random;
 use crate::text::{Kind, make_text};
@@ -73,10 +73,7 @@ pub(super) fn run(
 fn make_forms(alloc: Global, kind: Kind, random: &mut Random) -> Result<Forms, AllocError> {
     let text = make_text(alloc, kind, super::TEXT, random)?;
     let units = units_of(alloc, text.as_str())?;
-    let mut latin1 = Vec::with_capacity(alloc, units.len())?;
-    for unit in &units {
-        latin1.push((*unit & 0xFF) as u8)?;
-    }
+    let latin1 = latin1_of(alloc, text.as_str())?;
     Ok(Forms {
         text,
         latin1,

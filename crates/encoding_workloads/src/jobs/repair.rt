@@ -2,7 +2,7 @@
 
 ghost use Rattle.std.specs.Prelude.{◌≤◌, ◌<◌, ◌+◌, ◌-◌, length};
 
-use super::windows::{after, first, window};
+use super::windows::{after, first, latin1_of, window};
 use crate::digest::Digest;
 use crate::random::Random;
 use crate::text::{Kind, make_text};
@@ -89,47 +89,31 @@ fn make_stream(alloc: Global, stream: Stream, random: &mut Random) -> Result<Vec
         Stream::Sound => Kind::Html,
     };
     let text = make_text(alloc, kind, super::TEXT, random)?;
-    let mut bytes = Vec::with_capacity(alloc, text.len())?;
     match stream {
-        Stream::DamagedLogs => push_damaged(&mut bytes, text.as_str(), 100, random)?,
-        Stream::DamagedChinese => push_damaged(&mut bytes, text.as_str(), 1000, random)?,
-        Stream::Latin1 => push_latin1(&mut bytes, text.as_str())?,
-        Stream::Binary => push_binary(&mut bytes, text.as_str(), random)?,
-        Stream::Sound => bytes.extend_from_slice(text.as_bytes())?,
+        Stream::DamagedLogs => Ok(damaged(text, 100, random)),
+        Stream::DamagedChinese => Ok(damaged(text, 1000, random)),
+        Stream::Latin1 => latin1_of(alloc, text.as_str()),
+        Stream::Binary => binary(alloc, text.as_bytes(), random),
+        Stream::Sound => Ok(text.into_bytes()),
     }
-    Ok(bytes)
 }
 
-/// Appends a text in which one byte in `chances` becomes any byte beyond ASCII.
-fn push_damaged(
-    bytes: &mut Vec<u8>,
-    text: &str,
-    chances: usize,
-    random: &mut Random,
-) -> Result<(), AllocError>
+/// Returns a text in which one byte in `chances` becomes any byte beyond ASCII.
+fn damaged(text: String, chances: usize, random: &mut Random) -> Vec<u8>
     requires { 0 < chances }
 {
-    for byte in text.as_bytes() {
-        bytes.push(if random.is_one_in(chances) {
-            0x80 | (random.next() & 0x7F) as u8
-        } else {
-            *byte
-        })?;
+    let mut bytes = text.into_bytes();
+    for byte in bytes.iter_mut() {
+        if random.is_one_in(chances) {
+            *byte = 0x80 | (random.next() & 0x7F) as u8;
+        }
     }
-    Ok(())
+    bytes
 }
 
-/// Appends each character as one byte.
-fn push_latin1(bytes: &mut Vec<u8>, text: &str) -> Result<(), AllocError> {
-    for character in text.chars() {
-        bytes.push((u32::from(character) & 0xFF) as u8)?;
-    }
-    Ok(())
-}
-
-/// Appends entries: a name, zeros, and then data that is compressed and so looks random.
-fn push_binary(bytes: &mut Vec<u8>, text: &str, random: &mut Random) -> Result<(), AllocError> {
-    let names = text.as_bytes();
+/// Returns entries: a name, zeros, and then data that is compressed and so looks random.
+fn binary(alloc: Global, names: &[u8], random: &mut Random) -> Result<Vec<u8>, AllocError> {
+    let mut bytes = Vec::with_capacity(alloc, names.len())?;
     let mut at = 0;
     for _ in 0..super::TEXT {
         if bytes.len() >= super::TEXT || at >= names.len() {
@@ -138,14 +122,13 @@ fn push_binary(bytes: &mut Vec<u8>, text: &str, random: &mut Random) -> Result<(
         let length = random.between(8, 64).min(names.len() - at);
         bytes.extend_from_slice(&names[at..at + length])?;
         at += length;
-        for _ in 0..random.between(8, 128) {
-            bytes.push(0)?;
-        }
+        let zeros = random.between(8, 128);
+        bytes.resize(bytes.len().saturating_add(zeros), 0)?;
         for _ in 0..random.between(64, 2048) {
             bytes.push((random.next() & 0xFF) as u8)?;
         }
     }
-    Ok(())
+    Ok(bytes)
 }
 
 /// Repairs a stream as it is read.

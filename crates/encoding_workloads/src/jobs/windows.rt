@@ -4,6 +4,7 @@ ghost use Rattle.std.specs.Prelude.{◌≤◌, ◌<◌, ◌-◌, ◌/◌, length
 
 use crate::random::Random;
 use crate::text::{Kind, make_text};
+use encoding_text::mem::convert_str_to_utf16;
 use std::alloc::{AllocError, Global};
 
 /// Returns the units from an index on, none if it is past the last.
@@ -78,23 +79,19 @@ pub(super) fn texts(
 
 /// Returns the code units of a text.
 pub(super) fn units_of(alloc: Global, text: &str) -> Result<Vec<u16>, AllocError> {
-    let mut units = Vec::with_capacity(alloc, text.len())?;
-    for unit in text.encode_utf16() {
-        units.push(unit)?;
+    let mut units = vec![in alloc; 0; text.len()]?;
+    if units.len() >= text.len() {
+        let length = convert_str_to_utf16(text, &mut units);
+        units.truncate(length);
     }
     Ok(units)
 }
 
-/// Returns the code units of a text of each kind.
-pub(super) fn unit_texts(
-    alloc: Global,
-    kinds: &[Kind],
-    random: &mut Random,
-) -> Result<Vec<Vec<u16>>, AllocError> {
-    let mut all = Vec::new(alloc);
-    for kind in kinds {
-        let text = make_text(alloc, *kind, super::TEXT, random)?;
-        all.push(units_of(alloc, text.as_str())?)?;
+/// Returns a text whose characters are in Latin1 in that encoding.
+pub(super) fn latin1_of(alloc: Global, text: &str) -> Result<Vec<u8>, AllocError> {
+    let mut latin1 = Vec::with_capacity(alloc, text.len())?;
+    for character in text.chars() {
+        latin1.push((u32::from(character) & 0xFF) as u8)?;
     }
-    Ok(all)
+    Ok(latin1)
 }
