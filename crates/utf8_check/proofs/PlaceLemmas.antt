@@ -5,11 +5,16 @@ use Rattle.std.proofs.str.Laws.{one, two, three, four}
 use lib.Utf8.{next}
 use Rattle.std.proofs.lemmas.Bool.{and_parts, cases_lt, cases_eq}
 use Rattle.std.proofs.lemmas.Bool.Decides.{nat_tests}
-use Rattle.std.proofs.lemmas.List.{append-nil, length-map, take-append-drop, drop-drop, drop_more}
+use Rattle.std.proofs.lemmas.List.{append-nil, length-append, length-map, take-append-drop, drop-drop, drop_more}
 use Rattle.std.proofs.lemmas.Str.{chars-encodes}
 use Rattle.encoding_runs.specs.Parts.{Part, Character, ArePartsOf}
 use Rattle.encoding_definitions.proofs.DecompositionLemmas.{StartsWith-characters, same_parts}
-use Rattle.utf8_check.specs.Lines.{line_feeds, next_place, place_after}
+use Rattle.std.specs.List.{flat_map}
+use Rattle.encoding_definitions.specs.Parts.{IllFormed, bytes_of, StartsWith}
+use Rattle.encoding_definitions.proofs.PartsLemmas.{part_bytes}
+use Rattle.utf8_check.specs.declared.place.Columns.{Columns}
+use Rattle.utf8_check.specs.declared.place.Columns.TheVariants.{Characters, Bytes}
+use Rattle.utf8_check.specs.Lines.{CountsColumns, line_feeds, width_of, next_place, place_after}
 
 feed_here : (bs : List ℕ) → line_feeds (10 ∷ bs) ≡ suc (line_feeds bs)
 feed_here bs = omega arith
@@ -31,37 +36,91 @@ feeds_next at n count xs counted =
     omega (arith, counted, parts, rest)
 
 -- ---- places
-pub place_after-append : (place : ℕ × ℕ) (ps qs : List Part) → place_after place (ps ++ qs) ≡ place_after (place_after place ps) qs
-place_after-append place [] qs = refl
-place_after-append place (p ∷ ps) qs = place_after-append (next_place place p) ps qs
+-- the columns of characters
+abbrev widths : Columns → List ℕ → ℕ
+widths columns [] = 0
+widths columns (c ∷ cs) = width_of columns (Character c) + widths columns cs
 
-next_other : (line column c : ℕ) → (c ≡ 10 → ⊥) → next_place (line, column) (Character c) ≡ (line, column + 1)
-next_other line column c n = let no : nat_eq c 10 ≡ false = grind (arith, nat_tests) in ap (λ t. if t then (line + 1, 1) else (line, column + 1)) no
+widths_characters : (cs : List ℕ) → widths Characters cs ≡ length cs
+widths_characters [] = refl
+widths_characters (c ∷ cs) = omega (arith, widths_characters cs)
+
+widths_bytes : (cs : List ℕ) → widths Bytes cs ≡ length (encode_utf8_all cs)
+widths_bytes [] = refl
+widths_bytes (c ∷ cs) = omega (arith, widths_bytes cs, length-append (encode_utf8 c) (encode_utf8_all cs))
+
+pub place_after-append : (u : Columns) (place : ℕ × ℕ) (ps qs : List Part) → place_after u place (ps ++ qs) ≡ place_after u (place_after u place ps) qs
+place_after-append u place [] qs = refl
+place_after-append u place (p ∷ ps) qs = place_after-append u (next_place u place p) ps qs
+
+pub next_other : (u : Columns) (line column c : ℕ) → (c ≡ 10 → ⊥) → next_place u (line, column) (Character c) ≡ (line, column + width_of u (Character c))
+next_other u line column c n =
+    let no : nat_eq c 10 ≡ false = grind (arith, nat_tests) in ap (λ t. if t then (line + 1, 1) else (line, column + width_of u (Character c))) no
+
+-- a part leads no further than by its bytes
+next_bound : (u : Columns) (place : ℕ × ℕ) (p : Part) (n : ℕ) → length (bytes_of p) ≡ suc n
+    → ((next_place u place p).0 ≤ place.0 + suc n) × ((next_place u place p).1 ≤ place.1 + suc n)
+next_bound u (line, column) (Character c) n long = elim (cases_eq c 10) [
+  | inl e ↦
+      subst (λ k. ((next_place u (line, column) (Character k)).0 ≤ line + suc n) × ((next_place u (line, column) (Character k)).1 ≤ column + suc n)) (sym e)
+      (omega arith, omega arith)
+  | inr k ↦
+      subst (λ next. (next.0 ≤ line + suc n) × (next.1 ≤ column + suc n)) (sym (next_other u line column c k))
+      (omega arith, column_bound u)
+]
+  where
+    column_bound : (v : Columns) → column + width_of v (Character c) ≤ column + suc n
+    column_bound Characters = omega arith
+    column_bound Bytes = omega (arith, long)
+next_bound Characters (line, column) (IllFormed x) n long = (omega arith, omega arith)
+next_bound Bytes (line, column) (IllFormed x) n long = (omega arith, omega (arith, long))
+
+-- parts lead no further than by their bytes
+pub place_bound : (u : Columns) (place : ℕ × ℕ) (bs : List ℕ) (ps : List Part) (rest : List ℕ) → StartsWith bs ps rest
+    → ((place_after u place ps).0 + length rest ≤ place.0 + length bs) × ((place_after u place ps).1 + length rest ≤ place.1 + length bs)
+place_bound u place bs [] rest e = (omega (arith, ap length e), omega (arith, ap length e))
+place_bound u place bs (p ∷ ps) rest (after, f, s) =
+    let bytes = part_bytes bs p after f in
+    let n : ℕ = length (bytes_of p) - 1 in
+    let long : length (bytes_of p) ≡ suc n = omega (arith, bytes.1) in
+    let next = next_bound u place p n long in
+    let more = place_bound u (next_place u place p) after ps rest s in
+    let whole : length bs ≡ length (bytes_of p) + length after = ap length bytes.0 ∙ length-append (bytes_of p) after in
+    (omega (arith, next.0, more.0, whole, long), omega (arith, next.1, more.1, whole, long))
+
+-- there are no more parts than bytes
+pub parts_few : (bs : List ℕ) (ps : List Part) (rest : List ℕ) → StartsWith bs ps rest → length ps + length rest ≤ length bs
+parts_few bs [] rest e = omega (arith, ap length e)
+parts_few bs (p ∷ ps) rest (after, f, s) =
+    let bytes = part_bytes bs p after f in
+    omega (arith, parts_few after ps rest s, ap length bytes.0, length-append (bytes_of p) after, bytes.1)
 
 -- a text without a line feed
-place_in_line : (line column : ℕ) (cs : List ℕ) → line_feeds cs ≡ 0 → place_after (line, column) (map Character cs) ≡ (line, column + length cs)
-place_in_line line column [] none = ap (λ n. (line, n)) (omega arith)
-place_in_line line column (c ∷ cs) none = elim (cases_eq c 10) [
+place_in_line : (u : Columns) (line column : ℕ) (cs : List ℕ) → line_feeds cs ≡ 0
+    → place_after u (line, column) (map Character cs) ≡ (line, column + widths u cs)
+place_in_line u line column [] none = ap (λ n. (line, n)) (omega arith)
+place_in_line u line column (c ∷ cs) none = elim (cases_eq c 10) [
   | inl e ↦ absurd (let some : line_feeds (10 ∷ cs) ≡ 0 = subst (λ n. line_feeds (n ∷ cs) ≡ 0) e none in omega (arith, some, feed_here cs))
   | inr n ↦
-      ap (λ p. place_after p (map Character cs)) (next_other line column c n)
-      ∙ place_in_line line (column + 1) cs (sym (feed_other c cs n) ∙ none) ∙ ap (λ n. (line, n)) (omega arith)
+      ap (λ p. place_after u p (map Character cs)) (next_other u line column c n)
+      ∙ place_in_line u line (column + width_of u (Character c)) cs (sym (feed_other c cs n) ∙ none) ∙ ap (λ n. (line, n)) (omega arith)
 ]
 
 -- a text whose last line feed is before these characters
-place_after_feed : (line column : ℕ) (before after : List ℕ) → line_feeds after ≡ 0
-    → place_after (line, column) (map Character (before ++ 10 ∷ after)) ≡ (line + line_feeds (before ++ 10 ∷ after), 1 + length after)
-place_after_feed line column [] after none =
-    place_in_line (line + 1) 1 after none ∙ ap (λ n. (n, 1 + length after)) (omega (arith, none, feed_here after))
-place_after_feed line column (c ∷ before) after none =
+place_after_feed : (u : Columns) (line column : ℕ) (before after : List ℕ) → line_feeds after ≡ 0
+    → place_after u (line, column) (map Character (before ++ 10 ∷ after)) ≡ (line + line_feeds (before ++ 10 ∷ after), 1 + widths u after)
+place_after_feed u line column [] after none =
+    place_in_line u (line + 1) 1 after none ∙ ap (λ n. (n, 1 + widths u after)) (omega (arith, none, feed_here after))
+place_after_feed u line column (c ∷ before) after none =
     let rest : List ℕ = before ++ 10 ∷ after in
     elim (cases_eq c 10) [
       | inl e ↦
-          subst (λ n. place_after (line, column) (map Character (n ∷ rest)) ≡ (line + line_feeds (n ∷ rest), 1 + length after)) (sym e)
-          (place_after_feed (line + 1) 1 before after none ∙ ap (λ n. (n, 1 + length after)) (omega (arith, feed_here rest)))
+          subst (λ n. place_after u (line, column) (map Character (n ∷ rest)) ≡ (line + line_feeds (n ∷ rest), 1 + widths u after)) (sym e)
+          (place_after_feed u (line + 1) 1 before after none ∙ ap (λ n. (n, 1 + widths u after)) (omega (arith, feed_here rest)))
       | inr n ↦
-          ap (λ p. place_after p (map Character rest)) (next_other line column c n) ∙ place_after_feed line (column + 1) before after none
-          ∙ ap (λ n. (line + n, 1 + length after)) (sym (feed_other c rest n))
+          ap (λ p. place_after u p (map Character rest)) (next_other u line column c n)
+          ∙ place_after_feed u line (column + width_of u (Character c)) before after none
+          ∙ ap (λ n. (line + n, 1 + widths u after)) (sym (feed_other c rest n))
     ]
 
 -- ---- line feeds among bytes and among characters
@@ -154,20 +213,24 @@ text_parts cs text parts h e are =
     subst (λ xs. ArePartsOf xs (map Character cs)) (append-nil (encode_utf8_all cs) ∙ e) (StartsWith-characters cs [] h) in
     ap length (same_parts text parts (map Character cs) are all) ∙ length-map cs Character
 
--- ---- a text
-pub place_without_feed : (line column : ℕ) (text : List ℕ) (parts : List Part) → IsUtf8 text → line_feeds text ≡ 0 → ArePartsOf text parts
-    → (line, column + length parts) ≡ place_after (line, column) (map Character (chars text))
-place_without_feed line column text parts (cs, (h, e)) none are =
-    let characters : chars text ≡ cs = sym (ap chars e) ∙ chars-encodes cs h in
-    ap (λ n. (line, column + n)) (text_parts cs text parts h e are)
-    ∙ sym (place_in_line line column cs (sym (text_feeds cs h) ∙ ap line_feeds e ∙ none))
-    ∙ ap (λ xs. place_after (line, column) (map Character xs)) (sym characters)
+text_widths : (u : Columns) (cs text : List ℕ) (n : ℕ) → all_scalars cs ≡ true → encode_utf8_all cs ≡ text → CountsColumns u text n → n ≡ widths u cs
+text_widths Characters cs text n h e (parts, are, count) = count ∙ text_parts cs text parts h e are ∙ sym (widths_characters cs)
+text_widths Bytes cs text n h e count = count ∙ sym (ap length e) ∙ sym (widths_bytes cs)
 
-pub place_with_feed : (line column : ℕ) (text : List ℕ) (start : ℕ) (parts : List Part) → IsUtf8 text → start ≤ length text
-    → line_feeds (drop start text) ≡ 0 → (0 < start → slice_index text (start - 1) ≡ 10) → (line_feeds text ≡ 0 → ⊥) → ArePartsOf (drop start text) parts
-    → (line + line_feeds text, length parts + 1) ≡ place_after (line, column) (map Character (chars text))
-place_with_feed line column text zero parts u within none feed some are = absurd (some none)
-place_with_feed line column text (suc k) parts (cs, (h, e)) within none feed some are =
+-- ---- a text
+pub place_without_feed : (u : Columns) (line column : ℕ) (text : List ℕ) (n : ℕ) → IsUtf8 text → line_feeds text ≡ 0 → CountsColumns u text n
+    → (line, column + n) ≡ place_after u (line, column) (map Character (chars text))
+place_without_feed u line column text n (cs, (h, e)) none counts =
+    let characters : chars text ≡ cs = sym (ap chars e) ∙ chars-encodes cs h in
+    ap (λ k. (line, column + k)) (text_widths u cs text n h e counts)
+    ∙ sym (place_in_line u line column cs (sym (text_feeds cs h) ∙ ap line_feeds e ∙ none))
+    ∙ ap (λ xs. place_after u (line, column) (map Character xs)) (sym characters)
+
+pub place_with_feed : (u : Columns) (line column : ℕ) (text : List ℕ) (start n : ℕ) → IsUtf8 text → start ≤ length text
+    → line_feeds (drop start text) ≡ 0 → (0 < start → slice_index text (start - 1) ≡ 10) → (line_feeds text ≡ 0 → ⊥) → CountsColumns u (drop start text) n
+    → (line + line_feeds text, n + 1) ≡ place_after u (line, column) (map Character (chars text))
+place_with_feed u line column text zero n is within none feed some counts = absurd (some none)
+place_with_feed u line column text (suc k) n (cs, (h, e)) within none feed some counts =
     let before_is : suc k - 1 ≡ k = omega arith in
     let here : slice_index text k ≡ 10 = ap (slice_index text) (sym before_is) ∙ feed (omega arith) in
     let back : drop k text ≡ 10 ∷ drop (k + 1) text = drop_more text k 0 (omega (arith, within)) ∙ ap (λ y. y ∷ drop (k + 1) text) here in
@@ -178,6 +241,6 @@ place_with_feed line column text (suc k) parts (cs, (h, e)) within none feed som
     let characters : chars text ≡ cs = sym (ap chars e) ∙ chars-encodes cs h in
     let after : line_feeds cut.after ≡ 0 = sym (text_feeds cut.after cut.scalars) ∙ ap line_feeds cut.bytes ∙ none in
     let lines : line_feeds text ≡ line_feeds (cut.before ++ 10 ∷ cut.after) = ap line_feeds (sym e) ∙ text_feeds cs h ∙ ap line_feeds cut.whole in
-    let columns : length parts + 1 ≡ 1 + length cut.after = omega (arith, text_parts cut.after (drop (suc k) text) parts cut.scalars cut.bytes are) in
-    (λ i. (line + lines i, columns i)) ∙ sym (place_after_feed line column cut.before cut.after after)
-    ∙ ap (λ xs. place_after (line, column) (map Character xs)) (sym cut.whole ∙ sym characters)
+    let columns : n + 1 ≡ 1 + widths u cut.after = omega (arith, text_widths u cut.after (drop (suc k) text) n cut.scalars cut.bytes counts) in
+    (λ i. (line + lines i, columns i)) ∙ sym (place_after_feed u line column cut.before cut.after after)
+    ∙ ap (λ xs. place_after u (line, column) (map Character xs)) (sym cut.whole ∙ sym characters)

@@ -1,16 +1,18 @@
-//! Reports each malformed sequence of UTF-8 in files or standard input: its line, column and offset, its bytes, and why
-//! it is malformed.
+//! Reports each malformed sequence of UTF-8 in files or standard input: its line and column, its bytes, why it is
+//! malformed, and its offset.
 #![tactic(auto)]
 
 mod arguments;
 mod input;
 mod line;
+mod names;
 mod place;
 mod service;
 #[cfg(test)]
 mod tests;
 
 pub use input::{Fault, Mode, check};
+pub use place::Columns;
 use service::run;
 use std::process::ExitCode;
 

@@ -1,17 +1,26 @@
 //! The line and the column of a part.
-ghost use Rattle.std.specs.Prelude.{◌≡◌, ℕ, ◌+◌, ◌-◌, ◌<◌, ◌≤◌, List, length, map, drop, slice_index, IfSome};
+ghost use Rattle.std.specs.Prelude.{◌≡◌, ◌+◌, ◌-◌, ◌<◌, ◌≤◌, length, map, drop, slice_index, encode_utf8};
 ghost use Rattle.std.specs.Str.{chars};
-ghost use Rattle.encoding_definitions.specs.Parts.{Character};
-ghost use Rattle.utf8_check.specs.Lines.{line_feeds, next_place, place_after};
+ghost use Rattle.encoding_definitions.specs.Parts.{Character, IllFormed};
+ghost use Rattle.utf8_check.specs.Lines.{CountsColumns, line_feeds, next_place, place_after};
 
 use encoding_text::count::utf8_count;
+
+/// What a column is.
+#[derive(Clone, Copy, Debug, PartialEq, Eq)]
+pub enum Columns {
+    /// A character or a malformed sequence.
+    Characters,
+    /// A byte.
+    Bytes,
+}
 
 /// Where a part is.
 #[derive(Clone, Copy, Debug, PartialEq, Eq)]
 pub(crate) struct Place {
     /// One more than the line feeds before it.
     pub(crate) line: u64,
-    /// One more than the parts since the last line feed.
+    /// One more than the columns since the last line feed.
     pub(crate) column: u64,
 }
 
@@ -39,7 +48,8 @@ fn count_in_span(bytes: &[u8]) -> u8
 
 /// Counts the line feeds.
 fn count_line_feeds(bytes: &[u8]) -> usize
-    ensures { result ≡ line_feeds bytes.now }
+    ensures count { result ≡ line_feeds bytes.now }
+    ensures few { result ≤ length bytes.now }
 {
     let mut count = 0;
     let mut at = 0;
@@ -64,49 +74,76 @@ fn after_last_line_feed(bytes: &[u8]) -> usize
     start
 }
 
+/// Returns how many columns bytes without a line feed have.
+fn width(bytes: &[u8], columns: Columns) -> usize
+    ensures count { CountsColumns columns bytes.now result }
+    ensures few { result ≤ length bytes.now }
+{
+    match columns {
+        Columns::Characters => utf8_count(bytes),
+        Columns::Bytes => bytes.len(),
+    }
+}
+
 impl Place {
-    /// Returns the place after the text. `None` if a number of it exceeds `u64::MAX`.
-    pub(crate) fn after_text(self, text: &str) -> Option<Place>
-        ensures { IfSome result (λ place. (place.line, place.column)
-            ≡ place_after (self.line, self.column) (map Character (chars text.now))) }
+    /// Returns the place after the text.
+    pub(crate) fn after_text(self, text: &str, columns: Columns) -> Place
+        requires line { self.line + length text.now ≤ u64.MAX }
+        requires column { self.column + length text.now ≤ u64.MAX }
+        ensures { (result.line, result.column)
+            ≡ place_after columns (self.line, self.column) (map Character (chars text.now)) }
     {
         let bytes = text.as_bytes();
         let line_feeds = count_line_feeds(bytes);
         if line_feeds == 0 {
-            return Some(Place {
+            return Place {
                 line: self.line,
-                column: self.column.checked_add(utf8_count(bytes) as u64)?,
-            });
+                column: self.column + width(bytes, columns) as u64,
+            };
         }
         let start = after_last_line_feed(bytes);
-        Some(Place {
-            line: self.line.checked_add(line_feeds as u64)?,
-            column: (utf8_count(&bytes[start..]) as u64).checked_add(1)?,
-        })
+        Place {
+            line: self.line + line_feeds as u64,
+            column: width(&bytes[start..], columns) as u64 + 1,
+        }
     }
 
-    /// Returns the place after a character. `None` if a number of it exceeds `u64::MAX`.
-    pub(crate) fn after_character(self, character: char) -> Option<Place>
-        ensures { IfSome result (λ place. (place.line, place.column)
-            ≡ next_place (self.line, self.column) (Character character)) }
+    /// Returns the place after a character.
+    pub(crate) fn after_character(self, character: char, columns: Columns) -> Place
+        requires line { self.line + length (encode_utf8 character) < u64.MAX }
+        requires column { self.column + length (encode_utf8 character) < u64.MAX }
+        ensures { (result.line, result.column)
+            ≡ next_place columns (self.line, self.column) (Character character) }
     {
         if character == '\n' {
-            return Some(Place {
-                line: self.line.checked_add(1)?,
+            return Place {
+                line: self.line + 1,
                 column: 1,
-            });
+            };
         }
-        self.after_part()
+        let width = match columns {
+            Columns::Characters => 1,
+            Columns::Bytes => character.len_utf8() as u64,
+        };
+        Place {
+            line: self.line,
+            column: self.column + width,
+        }
     }
 
-    /// Returns the place after a part that is no line feed. `None` if a number of it exceeds `u64::MAX`.
-    pub(crate) fn after_part(self) -> Option<Place>
-        ensures { IfSome result
-            (λ place. (place.line ≡ self.line) × (place.column ≡ self.column + 1)) }
+    /// Returns the place after a malformed sequence.
+    pub(crate) fn after_malformed(self, bytes: &[u8], columns: Columns) -> Place
+        requires column { self.column + length bytes.now < u64.MAX }
+        ensures { (result.line, result.column)
+            ≡ next_place columns (self.line, self.column) (IllFormed bytes.now) }
     {
-        Some(Place {
+        let width = match columns {
+            Columns::Characters => 1,
+            Columns::Bytes => bytes.len() as u64,
+        };
+        Place {
             line: self.line,
-            column: self.column.checked_add(1)?,
-        })
+            column: self.column + width,
+        }
     }
 }

@@ -1,32 +1,36 @@
-use Rattle.std.proofs.Common.{◌++◌, ◌∷◌, [], List, ℕ, ap, append-nil, subst, sym}
-use Rattle.std.specs.List.{flat_map}
+use Rattle.std.proofs.Common.{◌++◌, List, ℕ, subst}
 use Rattle.std.specs.Io.KnownBytes.{Appends}
 use Rattle.std.proofs.KnownBytes.{Appends-trans}
-use Rattle.std.proofs.lemmas.List.{take_all}
-use Rattle.std.proofs.lemmas.Result.{MatchResult-weaker}
-use Rattle.utf8_check.specs.Lines.{hex_of, line_start}
-use Rattle.utf8_check.proofs.LineLemmas.{one_byte}
+use Rattle.std.proofs.lemmas.Result.{on_err_weaker, on_ok_weaker}
+use Rattle.utf8_check.specs.Checks.{WritesPrefixOf}
+use Rattle.utf8_check.specs.Lines.{line_end}
+use Rattle.utf8_check.proofs.LineLemmas.{on_err, prefix_after, prefix_start}
 use Rattle.utf8_check.proofs.line.write_line.Goals as goal
 
-pub loop-byte-init : goal.loop-byte-init
-loop-byte-init g c =
-    subst (Appends (g.W.Write.contents c.args.writer.now) (g.W.Write.contents c.write.new.self))
-    (sym (append-nil (line_start c.args.name.now c.args.place.line c.args.place.column c.args.offset))) c.in_ok-write.ensures.bytes
+pub returns-in_err-write_bytes-clause-err : goal.returns-in_err-write_bytes-clause-err
+returns-in_err-write_bytes-clause-err g c =
+    let old = g.W.Write.contents c.args.writer.now in
+    let mid = g.W.Write.contents c.write_bytes.new.writer in
+    let rest = line_end c.args.place.line c.args.place.column c.args.offset c.args.bytes.now c.args.kind in
+    on_err c.from_residual.result
+    (prefix_start c.args.name.now rest old mid (subst (λ xs. WritesPrefixOf xs old mid) c.as_bytes.ensures.value c.in_err-write_bytes.ensures.err))
 
-pub loop-byte-preserved : goal.loop-byte-preserved
-loop-byte-preserved g c =
-    subst (Appends (g.W.Write.contents c.args.writer.now) (g.W.Write.contents c.write_all.new.self))
-    (one_byte (line_start c.args.name.now c.args.place.line c.args.place.column c.args.offset) c.args.bytes.now c.loop-byte.byte-index _ _
-    c.loop-byte-test.true c.hex_digit.ensures c.hex_digit-in-loop-byte.ensures)
-    (Appends-trans _ _ _ _ _ c.loop-byte.invariant c.in_ok-write_all.ensures.bytes)
+pub returns-clause-ok : goal.returns-clause-ok
+returns-clause-ok g c =
+    let old = g.W.Write.contents c.args.writer.now in
+    let mid = g.W.Write.contents c.write_bytes.new.writer in
+    let new = g.W.Write.contents c.write_bytes-2.new.writer in
+    let name : Appends old mid c.args.name.now = subst (Appends old mid) c.as_bytes.ensures.value c.in_ok-write_bytes.ensures.ok in
+    on_ok_weaker c.write_bytes-2.result
+    (λ more. subst (λ xs. Appends old new (c.args.name.now ++ xs)) c.line_end-length.ensures.text (Appends-trans old mid new c.args.name.now _ name more))
+    c.write_bytes-2.ensures.ok
 
-pub returns : goal.returns
-returns g c =
-    let start : List ℕ = line_start c.args.name.now c.args.place.line c.args.place.column c.args.offset in
-    let before : Appends (g.W.Write.contents c.args.writer.now) (g.W.Write.contents c.loop-byte.writer) (start ++ flat_map hex_of c.args.bytes.now) =
-    subst (λ xs. Appends (g.W.Write.contents c.args.writer.now) (g.W.Write.contents c.loop-byte.writer) (start ++ flat_map hex_of xs))
-    (take_all c.loop-byte.byte-index c.args.bytes.now c.loop-byte-test.false) c.loop-byte.invariant in
-    MatchResult-weaker c.writeln.result c.writeln.ensures.bytes (λ _ more.
-    subst (Appends (g.W.Write.contents c.args.writer.now) (g.W.Write.contents c.writeln.new.self))
-    (ap (λ xs. start ++ flat_map hex_of c.args.bytes.now ++ (58 ∷ (32 ∷ (xs ++ (10 ∷ []))))) c.words_of-words.ensures)
-    (Appends-trans _ _ _ _ _ before more)) (λ _ _. tt)
+pub returns-clause-err : goal.returns-clause-err
+returns-clause-err g c =
+    let old = g.W.Write.contents c.args.writer.now in
+    let mid = g.W.Write.contents c.write_bytes.new.writer in
+    let new = g.W.Write.contents c.write_bytes-2.new.writer in
+    let name : Appends old mid c.args.name.now = subst (Appends old mid) c.as_bytes.ensures.value c.in_ok-write_bytes.ensures.ok in
+    on_err_weaker c.write_bytes-2.result
+    (λ more. subst (λ xs. WritesPrefixOf (c.args.name.now ++ xs) old new) c.line_end-length.ensures.text (prefix_after c.args.name.now _ old mid new name more))
+    c.write_bytes-2.ensures.err
