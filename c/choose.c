@@ -3,9 +3,10 @@
  * when a program starts or loads the library. No proof covers this file; c/join compiles it into the library.
  *
  * These resolvers run before the program and before the C library is ready. So they call nothing, have no stack
- * protector, and read nothing that a relocation may still have to write, except two addresses that are NULL until then.
+ * protector, and use nothing that a relocation may still have to write, except two addresses that are NULL until then.
  */
 #include <cpuid.h>
+#include <gnu/libc-version.h>
 #include <stddef.h>
 
 typedef void function(void);
@@ -97,6 +98,9 @@ static int takes_v3(void)
     static int answer; /* 0 until the first call, then 2 or 3 */
     int known = __atomic_load_n(&answer, __ATOMIC_RELAXED);
 
+    /* Only glibc runs resolvers. With another C library a program would end at its first call, so it is not to link: this
+     * function is glibc's alone, and its address isn't used. */
+    __asm__ volatile("" : : "r"(gnu_get_libc_version));
     if (known == 0) {
         known = include_v3(ask_processor()) && !asks_for_v2(environment()) ? 3 : 2;
         __atomic_store_n(&answer, known, __ATOMIC_RELAXED);

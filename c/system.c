@@ -1,7 +1,7 @@
 /*
  * The six functions of C that utf8_repair and utf8_check call apart from those of the C library, for ARM64: the toolchain has
  * them only for x86-64. Each does what the toolchain's declaration says, which the proofs take as given. No proof covers this
- * file; tests/arm/run checks the programs that it is linked into.
+ * file; tests/arm/run checks it and the programs that it is linked into.
  */
 #include <errno.h>
 #include <stdbool.h>
@@ -9,6 +9,10 @@
 #include <stdint.h>
 #include <stdlib.h>
 #include <sys/types.h>
+
+#ifndef __GLIBC__
+#error "only glibc passes the arguments of the program to constructors, which keep_arguments needs"
+#endif
 
 /* Whether there was memory, and where it is. If there was none, `p` is some address that isn't NULL. */
 typedef struct {

@@ -1,7 +1,8 @@
 /**
  * @file
- * encoding_text: ASCII, Latin1, UTF-8 and UTF-16 kernels, a streaming UTF-8 decoder and encoder, and UTF-8 repair, each
- * proved to do what the Unicode Standard and the Encoding Standard say.
+ * encoding_text: ASCII, Latin1, UTF-8 and UTF-16 kernels, streaming decoders of UTF-8, UTF-16LE and UTF-16BE, also by byte
+ * order marks, a streaming UTF-8 encoder, and UTF-8 repair. Each function is proved to do what the Unicode Standard and the
+ * Encoding Standard say.
  *
  * Terms
  * - "Well-formed" means well-formed UTF-8 (Unicode Standard, section 3.9, Table 3-7). A "text" is well-formed.
@@ -40,10 +41,12 @@
  * - No function allocates memory. Between calls, only a decoder or an encoder keeps state, in the caller's storage.
  *
  * Processors
- * - For 64-bit ARM, the library holds one build, for all processors.
+ * - For 64-bit ARM, the library holds one build, for all processors. It uses register x18, so it is for Linux with glibc or
+ *   musl: Android, OpenHarmony and kernels with a shadow call stack reserve that register.
  * - For x86-64 with glibc, it holds a build for x86-64-v2 and one for x86-64-v3 (with AVX2). It selects one at load time.
  * - It selects the second if the processor supports it and ENCODING_TEXT_CPU=x86-64-v2 isn't in the environment.
- * - A library made by `make CPU=x86-64-v3` or the like, or without glibc, holds one build and ignores the variable.
+ * - A library made by `make CPU=x86-64-v3` or the like, or without glibc, holds one build and ignores the variable. One that
+ *   holds two links only with glibc.
  * - If the processor supports no build of the library, the program ends with SIGILL.
  *
  * Not available from C
@@ -75,7 +78,7 @@ extern "C" {
     (10000 * ENCODING_TEXT_VERSION_MAJOR + 100 * ENCODING_TEXT_VERSION_MINOR + ENCODING_TEXT_VERSION_PATCH)
 #define ENCODING_TEXT_VERSION_MAJOR 0 /**< its first number */
 #define ENCODING_TEXT_VERSION_MINOR 1 /**< its second number */
-#define ENCODING_TEXT_VERSION_PATCH 0 /**< its third number */
+#define ENCODING_TEXT_VERSION_PATCH 1 /**< its third number */
 
 /* Returned if a precondition is violated. */
 #define ENCODING_TEXT_INVALID_ARGUMENT SIZE_MAX     /**< a violated precondition, as a size_t */
@@ -513,7 +516,8 @@ typedef struct {
 #define ENCODING_TEXT_OUTPUT_FULL 1 /**< the space left may be too short for the next character */
 #define ENCODING_TEXT_MALFORMED 2   /**< the bytes read so far end with a malformed sequence; nothing is pending */
 
-/** The result of a decode call. */
+/** The result of a call of encoding_text_utf8_decoder, whose reports end where the call stopped reading. The calls of the
+ * other two decoders return encoding_text_decoder_result, which has `read_after` too. */
 typedef struct {
     size_t read;              /**< elements of the source */
     size_t written;           /**< elements of the destination */
@@ -595,7 +599,8 @@ typedef struct {
     uint8_t big_endian; /**< 0 for UTF-16LE, any other number for UTF-16BE */
 } encoding_text_utf16_decoder;
 
-/** The result of a call of a UTF-16 decoder. */
+/** The result of a call of encoding_text_utf16_decoder, and of those calls of encoding_text_decoder that report. It has
+ * `read_after`, which encoding_text_decode_result, that of encoding_text_utf8_decoder, has not. */
 typedef struct {
     size_t read;              /**< elements of the source */
     size_t written;           /**< elements of the destination */
@@ -726,8 +731,10 @@ size_t encoding_text_decoder_max_utf8_buffer_length(const encoding_text_decoder 
 size_t encoding_text_decoder_latin1_byte_compatible_up_to(const encoding_text_decoder *decoder, const uint8_t *src,
                                                           size_t src_length);
 
-/** Decodes the next bytes, with U+FFFD for each malformed sequence. Only whole characters are written. If dst has space
- * for two code units (four bytes in UTF-8) and src isn't empty, the call reads or writes.
+/** Decodes the pending bytes and then src, with U+FFFD for each malformed sequence. Only whole characters are written. If
+ * dst has space for two code units (four bytes in UTF-8) and src isn't empty, the call reads or writes: characters of the
+ * pending bytes may take the space, and then nothing of src is read. With less space left, a character of pending bytes or
+ * U+FFFD may wait for the next call though it fits.
  * @param decoder the decoder, in the caller's storage.
  * @param src,src_length the source, in bytes.
  * @param dst,dst_length the destination, in code units.
@@ -741,8 +748,10 @@ encoding_text_coder_result encoding_text_decoder_decode_to_utf8(encoding_text_de
                                                                 size_t src_length, uint8_t *dst, size_t dst_length,
                                                                 bool last);
 
-/** Decodes the next bytes. A malformed sequence is reported, and nothing is written for it: call again with the unread
- * bytes. If dst has space for two code units (four bytes in UTF-8) and src isn't empty, the call reads or reports.
+/** Decodes the pending bytes and then src. A malformed sequence is reported, and nothing is written for it: call again with
+ * the unread bytes. If dst has space for two code units (four bytes in UTF-8) and src isn't empty, the call reads, writes
+ * or reports: characters of the pending bytes may take the space, and then nothing of src is read. With less space left, a
+ * character of pending bytes or a report may wait for the next call though it fits.
  * @param decoder the decoder, in the caller's storage.
  * @param src,src_length the source, in bytes.
  * @param dst,dst_length the destination, in code units.

@@ -1,7 +1,8 @@
 /**
  * @file
- * encoding_text.h for C++17 and later: validation, conversions into `std::string` and `std::u16string`, repair, and an
- * incremental decoder. It is header-only: a program links the same library as one in C.
+ * encoding_text.h for C++17 and later: validation, conversions into `std::string` and `std::u16string`, repair, and
+ * incremental decoders of UTF-8, UTF-16LE and UTF-16BE, also by byte order marks. It is header-only: a program links the same
+ * library as one in C.
  *
  * Terms
  * - "Well-formed", "malformed sequence", "unpaired surrogate" and "Latin1" are as in encoding_text.h.
@@ -66,6 +67,13 @@ public:
     view(const Character *text) noexcept : view(std::basic_string_view<Character>(text)) {}
 
     view(std::nullptr_t) = delete;
+
+#ifdef __cpp_char8_t
+    template <class T, class = std::enable_if_t<std::is_same_v<T, char8_t> && IsUnit<T>::value>>
+    view(const T *text) noexcept : view(std::basic_string_view<T>(text))
+    {
+    }
+#endif
 
     template <class T, class = std::enable_if_t<IsUnit<T>::value>>
     view(const T *text, std::size_t length) noexcept : first(reinterpret_cast<const Unit *>(text)), count(length)
@@ -662,7 +670,7 @@ public:
     /** Decodes as the function without `found` does.
      * @param src the bytes.
      * @param text the string that is appended to.
-     * @param last whether no more will follow.
+     * @param last whether no more will follow. After it, a new stream begins, whose offsets begin at 0.
      * @param found is called with each malformed sequence, in order, after the memory is allocated: its offset from the
      * start of the stream, its length and why it is malformed. It throws no exception.
      * @return the number of malformed sequences */
@@ -699,6 +707,9 @@ public:
         } while (!done.finished);
         extended.keep();
         where.advance(all);
+        if (last) {
+            where = {};
+        }
         return replaced;
     }
 
@@ -728,6 +739,9 @@ private:
     {
         std::size_t replaced = 0;
         detail::append(text, most, [&](auto *dst) { return write(src, detail::units(dst), most, last, replaced, found); });
+        if (last) {
+            where = {};
+        }
         return replaced;
     }
 
@@ -765,7 +779,8 @@ enum class decoder_result : std::uint8_t {
     malformed = ENCODING_TEXT_MALFORMED      /**< a malformed sequence was read, and nothing is written for it */
 };
 
-/** What a call did that writes into a span, and reports a malformed sequence. */
+/** What a call did that writes into a span, and reports a malformed sequence. Those that write U+FFFD instead return
+ * coded. */
 struct decoded {
     std::size_t read;             /**< bytes */
     std::size_t written;          /**< elements of the span */
@@ -780,6 +795,44 @@ namespace detail {
 inline decoded decoded_of(const encoding_text_decoder_result &done) noexcept
 {
     return {done.read, done.written, static_cast<decoder_result>(done.result), done.malformed_length, done.read_after};
+}
+
+/* How many bytes of a stream were read. */
+class stream_offset {
+public:
+    /* `Result` is that of a call in C. If it ends the stream, the next one begins. */
+    template <class Result> Result after(const Result &done, bool last) noexcept
+    {
+        read = last && done.result == ENCODING_TEXT_INPUT_EMPTY ? 0 : read + done.read;
+        return done;
+    }
+
+    /* The malformed sequence that the last call reported. */
+    malformed_sequence malformed(const encoding_text_decoder_result &done) const noexcept
+    {
+        return {read - done.read_after - done.malformed_length, done.malformed_length};
+    }
+
+private:
+    std::size_t read = 0;
+};
+
+/* Makes calls that report until all is read, and writes U+FFFD for each malformed sequence, into a span that is long enough
+ * for all of it. */
+template <class Unit, class Step, class Found>
+std::size_t write_reported(bytes src, Unit *dst, std::size_t length, Step step, Found found)
+{
+    std::size_t written = 0;
+    for (;;) {
+        const encoding_text_decoder_result done = step(src, dst + written, length - written);
+        src = src.from(done.read);
+        written += done.written;
+        if (done.result != ENCODING_TEXT_MALFORMED) {
+            return written;
+        }
+        written += write_replacement(dst + written);
+        found(done);
+    }
 }
 
 } // namespace detail
@@ -800,7 +853,7 @@ public:
      * @return the number of malformed sequences */
     std::size_t decode(bytes src, std::u16string &text, bool last)
     {
-        return append(src, text, encoding_text_utf16_decoder_max_utf16_buffer_length(&state, src.size()), last);
+        return decode(src, text, last, [](const malformed_sequence &) {});
     }
 
     /** Decodes the next bytes, and appends them as UTF-8, with U+FFFD for each malformed sequence.
@@ -810,7 +863,25 @@ public:
      * @return the number of malformed sequences */
     std::size_t decode(bytes src, std::string &text, bool last)
     {
-        return append(src, text, encoding_text_utf16_decoder_max_utf8_buffer_length(&state, src.size()), last);
+        return decode(src, text, last, [](const malformed_sequence &) {});
+    }
+
+    /** Decodes as the function without `found` does.
+     * @param src the bytes.
+     * @param text the string that is appended to.
+     * @param last whether no more will follow. After it, a new stream begins, whose offsets begin at 0.
+     * @param found is called with each malformed sequence, in order, after the memory is allocated: its offset from the
+     * start of the stream, and its length. It throws no exception.
+     * @return the number of malformed sequences */
+    template <class Found> std::size_t decode(bytes src, std::u16string &text, bool last, Found found)
+    {
+        return append(src, text, encoding_text_utf16_decoder_max_utf16_buffer_length(&state, src.size()), last, found);
+    }
+
+    /** @copydoc decode(bytes, std::u16string &, bool, Found) */
+    template <class Found> std::size_t decode(bytes src, std::string &text, bool last, Found found)
+    {
+        return append(src, text, encoding_text_utf16_decoder_max_utf8_buffer_length(&state, src.size()), last, found);
     }
 
     /** Decodes the next bytes to UTF-16, as many characters as fit. A malformed sequence ends the call, and nothing is
@@ -838,44 +909,43 @@ public:
     /** @return whether the last call ended between two characters */
     bool in_neutral_state() const noexcept { return encoding_text_utf16_decoder_in_neutral_state(&state); }
 
-    /** Forgets what is pending. */
-    void reset() noexcept { encoding_text_utf16_decoder_new(&state, state.big_endian != 0); }
+    /** Forgets what is pending, and begins a stream. */
+    void reset() noexcept
+    {
+        encoding_text_utf16_decoder_new(&state, state.big_endian != 0);
+        where = {};
+    }
 
 private:
     encoding_text_decoder_result step(bytes src, std::uint16_t *dst, std::size_t length, bool last) noexcept
     {
-        return encoding_text_utf16_decoder_decode_to_utf16(&state, src.data(), src.size(), dst, length, last);
+        return where.after(
+            encoding_text_utf16_decoder_decode_to_utf16(&state, src.data(), src.size(), dst, length, last), last);
     }
 
     encoding_text_decoder_result step(bytes src, std::uint8_t *dst, std::size_t length, bool last) noexcept
     {
-        return encoding_text_utf16_decoder_decode_to_utf8(&state, src.data(), src.size(), dst, length, last);
+        return where.after(
+            encoding_text_utf16_decoder_decode_to_utf8(&state, src.data(), src.size(), dst, length, last), last);
     }
 
-    template <class String> std::size_t append(bytes src, String &text, std::size_t most, bool last)
+    template <class String, class Found>
+    std::size_t append(bytes src, String &text, std::size_t most, bool last, Found &found)
     {
         std::size_t replaced = 0;
-        detail::append(text, most, [&](auto *dst) { return write(src, detail::units(dst), most, last, replaced); });
+        const auto next = [&](bytes rest, auto *dst, std::size_t length) { return step(rest, dst, length, last); };
+        const auto report = [&](const encoding_text_decoder_result &done) {
+            replaced++;
+            found(where.malformed(done));
+        };
+        detail::append(text, most, [&](auto *dst) {
+            return detail::write_reported(src, detail::units(dst), most, next, report);
+        });
         return replaced;
     }
 
-    template <class Unit>
-    std::size_t write(bytes src, Unit *dst, std::size_t length, bool last, std::size_t &replaced) noexcept
-    {
-        std::size_t written = 0;
-        for (;;) {
-            const auto done = step(src, dst + written, length - written, last);
-            src = src.from(done.read);
-            written += done.written;
-            if (done.result != ENCODING_TEXT_MALFORMED) {
-                return written;
-            }
-            written += detail::write_replacement(dst + written);
-            replaced++;
-        }
-    }
-
     encoding_text_utf16_decoder state = {};
+    detail::stream_offset where;
 };
 
 /** @} */
@@ -912,7 +982,8 @@ inline std::optional<byte_order_mark> for_bom(bytes text) noexcept
                              : std::optional(byte_order_mark{static_cast<encoding>(found.encoding), found.length});
 }
 
-/** What a call did that writes into a span, with U+FFFD for each malformed sequence. */
+/** What a call did that writes into a span, with U+FFFD for each malformed sequence. Those that report it instead return
+ * decoded. */
 struct coded {
     std::size_t read;      /**< bytes */
     std::size_t written;   /**< elements of the span */
@@ -922,7 +993,7 @@ struct coded {
 
 /** A decoder of UTF-8, UTF-16LE or UTF-16BE in pieces, which may end at any byte. Between calls it keeps up to three bytes
  * of a character or of a byte order mark. However the bytes are split, the text is that of all of them together. After a
- * last call it looks for no mark, until it is reset. */
+ * call marked last it looks for no mark, until it is reset. */
 class decoder {
 public:
     /** @param encoding the encoding, unless a mark decides it.
@@ -947,9 +1018,29 @@ public:
      * @return the number of malformed sequences */
     std::size_t decode(bytes src, std::string &text, bool last) { return append(src, text, last); }
 
-    /** Decodes the next bytes to UTF-16, as many characters as fit, with U+FFFD for each malformed sequence.
+    /** Decodes as the function without `found` does.
      * @param src the bytes.
-     * @param dst the span that is written.
+     * @param text the string that is appended to.
+     * @param last whether no more will follow. After it, a new stream begins, whose offsets begin at 0.
+     * @param found is called with each malformed sequence, in order, after the memory is allocated: its offset from the
+     * start of the stream, where a mark counts too, and its length. It throws no exception.
+     * @return the number of malformed sequences */
+    template <class Found> std::size_t decode(bytes src, std::u16string &text, bool last, Found found)
+    {
+        return report(src, text, encoding_text_decoder_max_utf16_buffer_length(&state, src.size()), last, found);
+    }
+
+    /** @copydoc decode(bytes, std::u16string &, bool, Found) */
+    template <class Found> std::size_t decode(bytes src, std::string &text, bool last, Found found)
+    {
+        return report(src, text, encoding_text_decoder_max_utf8_buffer_length(&state, src.size()), last, found);
+    }
+
+    /** Decodes the pending bytes and the next ones to UTF-16, as many whole characters as fit, with U+FFFD for each malformed
+     * sequence. If fewer than two code units are left, a character of pending bytes or U+FFFD may wait for the next call.
+     * @param src the bytes.
+     * @param dst the span that is written. If it has two code units, a call on some bytes reads or writes: characters of
+     * the pending bytes may take the space.
      * @param last whether no more will follow.
      * @return how much was read, written and replaced, and what ended the call */
     coded decode(bytes src, writable_code_units dst, bool last) noexcept
@@ -957,35 +1048,39 @@ public:
         return step(src, dst.data(), dst.size(), last);
     }
 
-    /** Decodes the next bytes to UTF-8, as many characters as fit, with U+FFFD for each malformed sequence.
+    /** Decodes the pending bytes and the next ones to UTF-8, as many whole characters as fit, with U+FFFD for each malformed
+     * sequence. If fewer than four bytes are left, a character of pending bytes or U+FFFD may wait for the next call.
      * @param src the bytes.
-     * @param dst the span that is written.
+     * @param dst the span that is written. If it has four bytes, a call on some bytes reads or writes: characters of the
+     * pending bytes may take the space.
      * @param last whether no more will follow.
      * @return how much was read, written and replaced, and what ended the call */
     coded decode(bytes src, writable_bytes dst, bool last) noexcept { return step(src, dst.data(), dst.size(), last); }
 
-    /** Decodes the next bytes to UTF-16, as many characters as fit. A malformed sequence ends the call, and nothing is
-     * written for it: call again with the unread bytes.
+    /** Decodes the pending bytes and the next ones to UTF-16. A malformed sequence ends the call, and nothing is written for
+     * it: call again with the unread bytes. It writes as many whole characters as fit. If fewer than two code units are left, a
+     * character of pending bytes or a report may wait for the next call.
      * @param src the bytes.
-     * @param dst the span that is written. If it has two code units, a call on some bytes reads or reports.
+     * @param dst the span that is written. If it has two code units, a call on some bytes reads, writes or reports:
+     * characters of the pending bytes may take the space.
      * @param last whether no more will follow.
      * @return how much was read and written, and what ended the call */
     decoded decode_without_replacement(bytes src, writable_code_units dst, bool last) noexcept
     {
-        return detail::decoded_of(encoding_text_decoder_decode_to_utf16_without_replacement(
-            &state, src.data(), src.size(), dst.data(), dst.size(), last));
+        return detail::decoded_of(reporting_step(src, dst.data(), dst.size(), last));
     }
 
-    /** Decodes the next bytes to UTF-8, as many characters as fit. A malformed sequence ends the call, and nothing is
-     * written for it: call again with the unread bytes.
+    /** Decodes the pending bytes and the next ones to UTF-8. A malformed sequence ends the call, and nothing is written for
+     * it: call again with the unread bytes. It writes as many whole characters as fit. If fewer than four bytes are left, a
+     * character of pending bytes or a report may wait for the next call.
      * @param src the bytes.
-     * @param dst the span that is written. If it has four bytes, a call on some bytes reads or reports.
+     * @param dst the span that is written. If it has four bytes, a call on some bytes reads, writes or reports: characters
+     * of the pending bytes may take the space.
      * @param last whether no more will follow.
      * @return how much was read and written, and what ended the call */
     decoded decode_without_replacement(bytes src, writable_bytes dst, bool last) noexcept
     {
-        return detail::decoded_of(encoding_text_decoder_decode_to_utf8_without_replacement(
-            &state, src.data(), src.size(), dst.data(), dst.size(), last));
+        return detail::decoded_of(reporting_step(src, dst.data(), dst.size(), last));
     }
 
     /** @return the encoding: that of a mark, once one is read */
@@ -1002,6 +1097,7 @@ public:
     {
         encoding_text_decoder_new(&state, static_cast<std::uint8_t>(first_encoding),
                                   static_cast<std::uint8_t>(first_bom));
+        where = {};
     }
 
 private:
@@ -1012,17 +1108,50 @@ private:
 
     coded step(bytes src, std::uint16_t *dst, std::size_t length, bool last) noexcept
     {
-        return coded_of(encoding_text_decoder_decode_to_utf16(&state, src.data(), src.size(), dst, length, last));
+        return coded_of(where.after(
+            encoding_text_decoder_decode_to_utf16(&state, src.data(), src.size(), dst, length, last), last));
     }
 
     coded step(bytes src, std::uint8_t *dst, std::size_t length, bool last) noexcept
     {
-        return coded_of(encoding_text_decoder_decode_to_utf8(&state, src.data(), src.size(), dst, length, last));
+        return coded_of(where.after(
+            encoding_text_decoder_decode_to_utf8(&state, src.data(), src.size(), dst, length, last), last));
+    }
+
+    encoding_text_decoder_result reporting_step(bytes src, std::uint16_t *dst, std::size_t length, bool last) noexcept
+    {
+        return where.after(encoding_text_decoder_decode_to_utf16_without_replacement(&state, src.data(), src.size(), dst,
+                                                                                     length, last),
+                           last);
+    }
+
+    encoding_text_decoder_result reporting_step(bytes src, std::uint8_t *dst, std::size_t length, bool last) noexcept
+    {
+        return where.after(encoding_text_decoder_decode_to_utf8_without_replacement(&state, src.data(), src.size(), dst,
+                                                                                    length, last),
+                           last);
+    }
+
+    template <class String, class Found>
+    std::size_t report(bytes src, String &text, std::size_t most, bool last, Found &found)
+    {
+        std::size_t replaced = 0;
+        const auto next = [&](bytes rest, auto *dst, std::size_t length) {
+            return reporting_step(rest, dst, length, last);
+        };
+        const auto one = [&](const encoding_text_decoder_result &done) {
+            replaced++;
+            found(where.malformed(done));
+        };
+        detail::append(text, most, [&](auto *dst) {
+            return detail::write_reported(src, detail::units(dst), most, next, one);
+        });
+        return replaced;
     }
 
     template <class String> std::size_t append(bytes src, String &text, bool last)
     {
-        detail::extension extended(text, state);
+        detail::extension extended(text, *this);
         std::size_t replaced = 0;
         coded done;
         do {
@@ -1039,6 +1168,7 @@ private:
     }
 
     encoding_text_decoder state = {};
+    detail::stream_offset where;
     encoding_text::encoding first_encoding;
     bom_handling first_bom;
 };

@@ -1,6 +1,6 @@
--- What is kept between two calls: of a decoder the pending bytes, the last of those pending before and those it read;
--- of an encoder the pending surrogate, the last unit of the source or the one before.
-use Rattle.std.proofs.Common.{◌≡◌, ℕ, ◌+◌, ◌-◌, ◌≤◌, inl, inr, Bool, false, true≢false, List, [], ◌∷◌, ◌++◌, length, take, slice_index, refl, sym, ap, ◌∙◌, arith, encode_utf8_all, ◌<◌}
+-- What is kept between two calls: of a decoder the pending bytes; of an encoder the pending surrogate, the last unit of the source or
+-- the one before.
+use Rattle.std.proofs.Common.{◌≡◌, ℕ, zero, suc, ◌+◌, ◌-◌, ◌≤◌, inl, inr, Bool, false, true≢false, List, [], ◌∷◌, ◌++◌, length, take, slice_index, refl, sym, ap, ◌∙◌, arith, encode_utf8_all, ◌<◌}
 use Rattle.std.proofs.lemmas.List.{append-nil, take_all, get_or-append-add, length-append}
 use Rattle.encoding_definitions.specs.Sequence.{IsPending}
 use Rattle.encoding_text.specs.OneResult.{AreSamePiece}
@@ -10,61 +10,22 @@ use Rattle.encoding_text.specs.declared.decoder.DecoderResult.TheVariants.{Input
 use Rattle.encoding_text.specs.declared.decoder.Piece.{Piece}
 use Rattle.encoding_text.specs.declared.decoder.Piece.TheVariants as piece
 use Rattle.encoding_text.proofs.BorrowedLemmas.{same_piece}
-use Rattle.encoding_c.specs.States.{EndsWith, IsPendingUnit}
+use Rattle.encoding_c.specs.States.{IsPendingUnit}
 use Rattle.std.proofs.lemmas.Bool.{cases_lt}
 use Rattle.encoding_text.specs.Encoding.{IsPendingSurrogate, EncodeStep}
 use Rattle.encoding_text.specs.declared.utf_8.encoder.EncoderResult.{EncoderResult}
 use Rattle.encoding_text.specs.declared.utf_8.encoder.EncoderResult.TheVariants.{InputEmpty, OutputFull}
 
--- at most three bytes are pending
--- a call of a decoder with a destination
-module _ {A : Type 0} (encode : ℕ → List A) (need : ℕ) (p src : List ℕ) (last : Bool) where
-  answer_ends : (result : DecoderResult) (read : ℕ) (cs : List ℕ) (left : ℕ) (q : List ℕ) → IsDecodeResult encode need p src last result read cs left q
-      → (read ≤ length src) × EndsWith (p ++ take read src) q
-  answer_ends InputEmpty read cs left q a =
-      (omega (arith, a.0), (encode_utf8_all cs, ap (λ n. p ++ take n src) a.0 ∙ ap (λ xs. p ++ xs) (take_all (length src) src (omega arith)) ∙ a.1))
-  answer_ends OutputFull read cs left q a = (omega (arith, a.0), (encode_utf8_all cs, a.1))
-  answer_ends (Malformed k second) read cs left q (x, s, w, e, n, none, b, room) =
-      (w, (p ++ take read src, sym (append-nil (p ++ take read src)) ∙ ap (λ xs. (p ++ take read src) ++ xs) (sym none)))
-
-  pub call_ends : (old new : List A) (result : DecoderResult) (read written : ℕ) (q : List ℕ)
-      → DecodeStepInto encode need p src old new last result read written q
-      → (read ≤ length src) × EndsWith (p ++ take read src) q
-  call_ends old new result read written q (out, w, c) = answer_ends result read c.scalars (length old - length out) q c.answer
-
--- a call without a destination
-borrowed_ends : (p src : List ℕ) (last : Bool) (returned : Piece) (read : ℕ) (q : List ℕ) → IsBorrowedResult p src last returned read q
-    → (read ≤ length src) × EndsWith (p ++ take read src) q
-borrowed_ends p src last (piece.Text t) read q a = (
-  a.4.within,
-  (
-    p ++ take read src,
-    sym (append-nil (p ++ take read src))
-        ∙ ap (λ xs. (p ++ take read src) ++ xs) (sym a.1),
-  ),
-)
-borrowed_ends p src last (piece.Char c) read q a = (
-  a.2,
-  (
-    p ++ take read src,
-    sym (append-nil (p ++ take read src))
-        ∙ ap (λ xs. (p ++ take read src) ++ xs) (sym a.1),
-  ),
-)
-borrowed_ends p src last (piece.Malformed k) read q a = (
-  a.0,
-  (
-    p ++ take read src,
-    sym (append-nil (p ++ take read src))
-        ∙ ap (λ xs. (p ++ take read src) ++ xs) (sym a.2),
-  ),
-)
-borrowed_ends p src last piece.InputEmpty read q a =
-    (omega (arith, a.0), ([], ap (λ n. p ++ take n src) a.0 ∙ ap (λ xs. p ++ xs) (take_all (length src) src (omega arith)) ∙ sym a.1))
-
-pub borrowed_call_ends : (p src : List ℕ) (last : Bool) (returned : Piece) (read : ℕ) (q : List ℕ) → BorrowedDecodeStep p src last returned read q
-    → (read ≤ length src) × EndsWith (p ++ take read src) q
-borrowed_call_ends p src last returned read q c = borrowed_ends p src last returned read q c.answer
+-- at most three bytes of an array are those of its first three
+pub first_three : (xs q : List ℕ) (n : ℕ) → n ≡ length q → n ≤ 3 → take n xs ≡ q → take n (slice_index xs 0 ∷ slice_index xs 1 ∷ slice_index xs 2 ∷ []) ≡ q
+first_three xs q zero size few e = e
+first_three (a ∷ xs) q (suc zero) size few e = e
+first_three (a ∷ b ∷ xs) q (suc (suc zero)) size few e = e
+first_three (a ∷ b ∷ c ∷ xs) q (suc (suc (suc zero))) size few e = e
+first_three xs q (suc (suc (suc (suc n)))) size few e = absurd (omega (arith, few))
+first_three [] q (suc n) size few e = absurd (omega (arith, size, ap length e))
+first_three (a ∷ []) q (suc (suc n)) size few e = absurd (omega (arith, size, ap length e))
+first_three (a ∷ b ∷ []) q (suc (suc (suc n))) size few e = absurd (omega (arith, size, ap length e))
 
 -- pending bytes that a new decoder reads are pending in it
 pub pending_again : (src : List ℕ) → IsPending src → (returned : Piece) (read : ℕ) (q : List ℕ) → BorrowedDecodeStep [] src false returned read q
@@ -79,11 +40,6 @@ pending_again src pending returned read q call = said returned (same_piece [] sr
     said (piece.Char c) s = absurd s
     said (piece.Malformed k) s = absurd s
     said piece.InputEmpty s = refl
-
--- as many bytes as end both
-pub ends_within : (pending read q : List ℕ) (count : ℕ) → EndsWith (pending ++ read) q → count ≡ length q → count ≤ length pending + length read
-ends_within pending read q count (before, whole) is =
-    omega (arith, is, ap length whole, length-append before q, length-append pending read)
 
 -- the unit left pending is the last one of the pending surrogate before and the source
 last_unit : (surrogate src prefix left_open : List ℕ) (before unit : ℕ) → surrogate ++ src ≡ prefix ++ left_open → IsPendingSurrogate left_open

@@ -11,22 +11,6 @@ use Rattle.encoding_streams.specs.Utf16Parts.{IsPendingUtf16, IsFirstPartUtf16}
 use Rattle.encoding_streams.specs.Utf16Decoding.{IsUtf16DecodeResult, DecodeUtf16StepInto}
 use Rattle.encoding_streams.proofs.Utf16ByteLemmas.{no_character_pending}
 use Rattle.encoding_streams.proofs.Utf16WindowLemmas.{none_done, not_unpaired}
-use Rattle.encoding_c.specs.States.{EndsWith}
-
-module _ {A : Type 0} (order : ByteOrder) (encode : ℕ → List A) (need : ℕ) (p src : List ℕ) (last : Bool) where
-  answer_ends : (result : DecoderResult) (read : ℕ) (cs : List ℕ) (left : ℕ) (q : List ℕ)
-      → IsUtf16DecodeResult order encode need p src last result read cs left q
-      → (read ≤ length src) × EndsWith (p ++ take read src) q
-  answer_ends InputEmpty read cs left q a =
-      (omega (arith, a.0), (bytes_of_scalars order cs, ap (λ xs. p ++ xs) (take_all read src (omega (arith, a.0))) ∙ a.1))
-  answer_ends OutputFull read cs left q a = (a.1, (bytes_of_scalars order cs, a.2))
-  answer_ends (Malformed k second) read cs left q (x, within, spelled, size, more, kept, malformed, room) =
-      (within, (bytes_of_scalars order cs ++ x, spelled ∙ sym (append_assoc (bytes_of_scalars order cs) x q)))
-
-  pub call_ends : (old new : List A) (result : DecoderResult) (read written : ℕ) (q : List ℕ)
-      → DecodeUtf16StepInto order encode need p src old new last result read written q
-      → (read ≤ length src) × EndsWith (p ++ take read src) q
-  call_ends old new result read written q (out, w, c) = answer_ends result read c.scalars (length old - length out) q c.answer
 
 -- bytes that may be pending have no first part
 no_part : (order : ByteOrder) (src : List ℕ) (part : Part) (after : List ℕ) → IsPendingUtf16 order src → IsFirstPartUtf16 order false src part after → ⊥

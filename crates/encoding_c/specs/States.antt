@@ -63,10 +63,6 @@ abbrev pub IsPendingUnit : EncoderResult → List ℕ → ℕ → ℕ → Type 0
 IsPendingUnit encoder.InputEmpty src before unit = IsLastOf src before unit
 IsPendingUnit encoder.OutputFull src before unit = unit ≡ before
 
--- xs end with q
-abbrev pub EndsWith : List ℕ → List ℕ → Type 0
-EndsWith xs q = (prefix : List ℕ) × (xs ≡ prefix ++ q)
-
 -- the two numbers for what ended a call of a decoder
 abbrev pub IsCodeOf : DecoderResult → ℕ → ℕ → Type 0
 IsCodeOf decoder.InputEmpty result malformed = (result ≡ 0) × (malformed ≡ 0)

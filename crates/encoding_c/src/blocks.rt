@@ -6,7 +6,7 @@ ghost use Rattle.encoding_runs.specs.Blocks.{IsBlockRepair};
 ghost use Rattle.encoding_runs.specs.declared.repair.blocks.RepairedBlock.{RepairedBlock};
 ghost use Rattle.encoding_c.specs.States.{Represents};
 
-use crate::decoder::{EncodingUtf8Decoder, pending_count, restored, stored};
+use crate::decoder::{EncodingUtf8Decoder, restored, stored};
 use encoding_runs::repair::repair_block;
 
 /// What a call did with a block: how much it read and wrote, and how many malformed sequences it replaced. It is
@@ -36,15 +36,9 @@ pub extern "C" fn encoding_text_repair_block(
         × IsBlockRepair p src.now (length dst.old) last block result.read out q
         × (block.replaced ≡ result.replaced) × (block.finished ≡ result.finished) }
 {
-    let before = *decoder;
-    let mut inner = restored(before);
-    let pending_length = pending_count(&inner);
+    let mut inner = restored(*decoder);
     let block = repair_block(&mut inner, src, dst, last);
-    *decoder = stored(
-        &inner,
-        &before.pending[..pending_length],
-        &src[..block.read],
-    );
+    *decoder = stored(&inner);
     EncodingRepairBlockResult {
         read: block.read,
         written: block.written,

@@ -4,7 +4,7 @@ ghost use Rattle.std.specs.Prelude.{◌≡◌, ℕ, ◌<◌, ◌≤◌, ◌↔�
 ghost use Rattle.std.specs.Char.Escape.{encode_utf16};
 ghost use Rattle.encoding_definitions.specs.Sequence.{IsPending};
 ghost use Rattle.encoding_text.specs.Decoding.{DecodeStepInto, BorrowedDecodeStep, Suffices, SufficesReplacing, max_utf16_length, max_utf8_length, max_utf8_length_with_replacement};
-ghost use Rattle.encoding_c.specs.States.{Represents, EndsWith, IsCodeOf, DecoderCall, PieceCall};
+ghost use Rattle.encoding_c.specs.States.{Represents, IsCodeOf, DecoderCall, PieceCall};
 
 use encoding_text::decoder::{DecoderResult, Piece, Utf8Decoder};
 
@@ -53,8 +53,6 @@ fn is_all_read(piece: &Piece) -> bool
 #[tactic(auto, using(crate::proofs::StateLemmas::pending_again))]
 fn restored_pending(state: EncodingUtf8Decoder) -> Utf8Decoder
     ensures stands { Represents state result }
-    ensures prefix { result ≡ take (length result) state.pending }
-    ensures at_most_three { length result ≤ 3 }
 {
     if state.count > MAX_PENDING {
         return Utf8Decoder::new_inner();
@@ -72,8 +70,6 @@ fn restored_pending(state: EncodingUtf8Decoder) -> Utf8Decoder
 #[inline(always)]
 pub(crate) fn restored(state: EncodingUtf8Decoder) -> Utf8Decoder
     ensures stands { Represents state result }
-    ensures prefix { result ≡ take (length result) state.pending }
-    ensures at_most_three { length result ≤ 3 }
 {
     if state.count == 0 {
         return Utf8Decoder::new_inner();
@@ -81,72 +77,15 @@ pub(crate) fn restored(state: EncodingUtf8Decoder) -> Utf8Decoder
     restored_pending(state)
 }
 
-/// Returns the number of pending bytes.
-#[tactic(auto, using(encoding_runs::proofs::RepairLemmas::pending_length))]
-pub(crate) fn pending_count(decoder: &Utf8Decoder) -> usize
-    ensures pending_length { result ≡ length decoder.now }
-    ensures at_most_three { result ≤ 3 }
-    ensures pending { IsPending decoder.now }
-{
-    if decoder.in_neutral_state() {
-        return 0;
-    }
-    match decoder.max_utf16_buffer_length(0) {
-        Some(room) => room - 1,
-        None => 0,
-    }
-}
-
-/// Returns the byte at an index of the pending bytes followed by the read ones, or 0 after the last of them.
-fn byte_at(pending: &[u8], read: &[u8], place: usize) -> u8
-    ensures { result ≡ slice_index (pending.now ++ read.now) place }
-{
-    if place < pending.len() {
-        return pending[place];
-    }
-    let following = place - pending.len();
-    if following < read.len() {
-        read[following]
-    } else {
-        0
-    }
-}
-
-/// Returns the last bytes of `pending` followed by `read`, `count` of them. The bytes after these have no meaning.
+/// Returns the storage of a decoder.
 #[inline(always)]
-pub(crate) fn last_bytes(pending: &[u8], read: &[u8], count: usize) -> [u8; 3]
-    requires within { count ≤ length pending.now + length read.now }
-    requires at_most_three { (count ≤ 3) × (length pending.now ≤ 3) }
-    ensures { (q : List ℕ) → EndsWith (pending.now ++ read.now) q → length q ≡ count
-        → take count result ≡ q }
-{
-    if count == 0 {
-        return [0; 3];
-    }
-    let start = pending.len() + read.len() - count;
-    [
-        byte_at(pending, read, start),
-        byte_at(pending, read, start + 1),
-        byte_at(pending, read, start + 2),
-    ]
-}
-
-/// Returns the storage of a decoder. Its pending bytes are the last ones of `pending`, the bytes pending before its
-/// call, followed by `read`.
-pub(crate) fn stored(decoder: &Utf8Decoder, pending: &[u8], read: &[u8]) -> EncodingUtf8Decoder
-    requires ends { EndsWith (pending.now ++ read.now) decoder.now }
-    requires at_most_three { length pending.now ≤ 3 }
+pub(crate) fn stored(decoder: &Utf8Decoder) -> EncodingUtf8Decoder
     ensures { Represents result decoder.now }
 {
-    let count = pending_count(decoder);
-    if count == 0 {
-        return EncodingUtf8Decoder {
-            pending: [0; 3],
-            count: 0,
-        };
-    }
+    let (pending, count) = decoder.pending();
+    let [first, second, third, _] = pending;
     EncodingUtf8Decoder {
-        pending: last_bytes(pending, read, count),
+        pending: [first, second, third],
         count: count as u8,
     }
 }
@@ -278,11 +217,9 @@ pub extern "C" fn encoding_text_utf8_decoder_decode_to_utf16(
     ensures progress { 0 < length src.now → 2 ≤ length dst.old
         → (0 < result.read) ⊎ (result.result ≡ 2) }
 {
-    let before = *decoder;
-    let mut inner = restored(before);
-    let pending_length = pending_count(&inner);
+    let mut inner = restored(*decoder);
     let (ended, read, written) = inner.decode_to_utf16_raw(src, dst, last);
-    *decoder = stored(&inner, &before.pending[..pending_length], &src[..read]);
+    *decoder = stored(&inner);
     decoded(ended, read, written)
 }
 
@@ -306,11 +243,9 @@ pub extern "C" fn encoding_text_utf8_decoder_decode_to_utf8(
     ensures progress { 0 < length src.now → 4 ≤ length dst.old
         → (0 < result.read) ⊎ (result.result ≡ 2) }
 {
-    let before = *decoder;
-    let mut inner = restored(before);
-    let pending_length = pending_count(&inner);
+    let mut inner = restored(*decoder);
     let (ended, read, written) = inner.decode_to_utf8_raw(src, dst, last);
-    *decoder = stored(&inner, &before.pending[..pending_length], &src[..read]);
+    *decoder = stored(&inner);
     decoded(ended, read, written)
 }
 
@@ -324,11 +259,9 @@ pub extern "C" fn encoding_text_utf8_decoder_decode_borrowed(
     ensures { PieceCall decoder.old decoder.new result
         (λ p returned q. BorrowedDecodeStep p src.now last returned result.read q) }
 {
-    let before = *decoder;
-    let mut inner = restored(before);
-    let pending_length = pending_count(&inner);
+    let mut inner = restored(*decoder);
     let (piece, read) = inner.decode_borrowed_raw(src, last);
-    *decoder = stored(&inner, &before.pending[..pending_length], &src[..read]);
+    *decoder = stored(&inner);
     let (kind, character, malformed_length) = match piece {
         Piece::Text(_) => (0, 0, 0),
         Piece::Char(character) => (1, u32::from(character), 0),

@@ -7,7 +7,7 @@ ghost use Rattle.encoding_text.specs.Decoding.{max_utf16_length, max_utf8_length
 ghost use Rattle.encoding_runs.specs.Runs.{Completes, Delivers, EncodesByTurns};
 ghost use Rattle.encoding_c.specs.States.{IsLastCodeOf, IsLastEncodeCodeOf, DecoderRun, EncoderRun};
 
-use crate::decoder::{self, EncodingUtf8Decoder, Ended, pending_count};
+use crate::decoder::{self, EncodingUtf8Decoder, Ended};
 use crate::encoder::{self, EncodingEncodeResult, EncodingUtf8Encoder};
 use crate::status::INVALID_ARGUMENT_U8;
 use encoding_runs::run::{Outcome, Report, Turn, run_from_utf16, run_to_utf8, run_to_utf16};
@@ -102,15 +102,9 @@ pub extern "C" fn encoding_text_run_to_utf16(
     if reports.len() < turns.len() {
         return INVALID_ARGUMENT_RUN;
     }
-    let before = *decoder;
-    let mut inner = decoder::restored(before);
-    let pending_length = pending_count(&inner);
+    let mut inner = decoder::restored(*decoder);
     let outcome = run_to_utf16(&mut inner, src, turns, dst, reports);
-    *decoder = decoder::stored(
-        &inner,
-        &before.pending[..pending_length],
-        &src[..outcome.read],
-    );
+    *decoder = decoder::stored(&inner);
     reported(&outcome)
 }
 
@@ -137,15 +131,9 @@ pub extern "C" fn encoding_text_run_to_utf8(
     if reports.len() < turns.len() {
         return INVALID_ARGUMENT_RUN;
     }
-    let before = *decoder;
-    let mut inner = decoder::restored(before);
-    let pending_length = pending_count(&inner);
+    let mut inner = decoder::restored(*decoder);
     let outcome = run_to_utf8(&mut inner, src, turns, dst, reports);
-    *decoder = decoder::stored(
-        &inner,
-        &before.pending[..pending_length],
-        &src[..outcome.read],
-    );
+    *decoder = decoder::stored(&inner);
     reported(&outcome)
 }
 

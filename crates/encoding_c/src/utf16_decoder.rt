@@ -7,9 +7,9 @@ ghost use Rattle.encoding_text.specs.Decoding.{Suffices};
 ghost use Rattle.encoding_text.specs.declared.utf_16.ByteOrder.TheVariants.{LittleEndian, BigEndian};
 ghost use Rattle.encoding_streams.specs.Utf16Parts.{IsPendingUtf16};
 ghost use Rattle.encoding_streams.specs.Utf16Decoding.{DecodeUtf16StepInto, SufficesReplacingUtf16, Utf16State, max_utf16_length_from_utf16, max_utf8_length_from_utf16};
-ghost use Rattle.encoding_c.specs.States.{EndsWith, IsByteOrder, IsUtf16CodeOf, RepresentsUtf16, Utf16Call};
+ghost use Rattle.encoding_c.specs.States.{IsByteOrder, IsUtf16CodeOf, RepresentsUtf16, Utf16Call};
 
-use crate::decoder::{Ended, MAX_PENDING, last_bytes, numbers};
+use crate::decoder::{Ended, MAX_PENDING, numbers};
 use encoding_streams::utf16_decoder::Utf16Decoder;
 use encoding_text::decoder::DecoderResult;
 use encoding_text::utf_16::ByteOrder;
@@ -59,9 +59,7 @@ fn is_all_read(ended: &DecoderResult) -> bool
 #[inline(never)]
 #[tactic(auto, using(crate::proofs::Utf16StateLemmas::pending_again))]
 fn restored_pending(state: EncodingUtf16Decoder) -> Utf16Decoder
-    ensures stands { RepresentsUtf16 state result }
-    ensures prefix { result.pending ≡ take (length result.pending) state.pending }
-    ensures at_most_three { length result.pending ≤ 3 }
+    ensures { RepresentsUtf16 state result }
 {
     let order = byte_order(state.big_endian);
     let mut decoder = Utf16Decoder::new(order);
@@ -80,8 +78,6 @@ fn restored_pending(state: EncodingUtf16Decoder) -> Utf16Decoder
 #[inline(always)]
 pub(crate) fn restored(state: EncodingUtf16Decoder) -> Utf16Decoder
     ensures stands { RepresentsUtf16 state result }
-    ensures prefix { result.pending ≡ take (length result.pending) state.pending }
-    ensures at_most_three { length result.pending ≤ 3 }
 {
     if state.count == 0 {
         return Utf16Decoder::new(byte_order(state.big_endian));
@@ -89,45 +85,19 @@ pub(crate) fn restored(state: EncodingUtf16Decoder) -> Utf16Decoder
     restored_pending(state)
 }
 
-/// Returns the number of pending bytes.
-pub(crate) fn pending_count(decoder: &Utf16Decoder) -> usize
-    ensures pending_length { result ≡ length decoder.now.pending }
-    ensures at_most_three { result ≤ 3 }
-    ensures pending { IsPendingUtf16 decoder.now.order decoder.now.pending }
-{
-    if decoder.in_neutral_state() {
-        return 0;
-    }
-    match (
-        decoder.max_utf16_buffer_length(0),
-        decoder.max_utf16_buffer_length(1),
-    ) {
-        (Some(even), Some(odd)) => even + odd - 3,
-        _ => 0,
-    }
-}
-
-/// Stores a decoder after its call. Its pending bytes are the last ones of the `pending_length` bytes pending before the call,
-/// followed by `read`. In most calls nothing is pending before and after, and then the storage stays as it is.
+/// Stores a decoder after its call. In most calls nothing is pending before and after, and then the storage stays as it is.
 #[inline(always)]
-fn store(
-    storage: &mut EncodingUtf16Decoder,
-    decoder: &Utf16Decoder,
-    pending_length: usize,
-    read: &[u8],
-)
+fn store(storage: &mut EncodingUtf16Decoder, decoder: &Utf16Decoder)
     requires order { IsByteOrder storage.old.big_endian decoder.now.order }
-    requires at_most_three { pending_length ≤ 3 }
-    requires ends { EndsWith
-        (take pending_length storage.old.pending ++ read.now) decoder.now.pending }
     ensures { RepresentsUtf16 storage.new decoder.now }
 {
-    let count = pending_count(decoder);
+    let (pending, count) = decoder.pending();
     if storage.count == 0 && count == 0 {
         return;
     }
+    let [first, second, third, _] = pending;
     *storage = EncodingUtf16Decoder {
-        pending: last_bytes(&storage.pending[..pending_length], read, count),
+        pending: [first, second, third],
         count: count as u8,
         big_endian: storage.big_endian,
     };
@@ -256,9 +226,8 @@ pub extern "C" fn encoding_text_utf16_decoder_decode_to_utf16(
         → (0 < result.read) ⊎ (result.result ≡ 2) }
 {
     let mut inner = restored(*decoder);
-    let pending_length = pending_count(&inner);
     let (ended, read, written) = inner.decode_to_utf16_raw(src, dst, last);
-    store(decoder, &inner, pending_length, &src[..read]);
+    store(decoder, &inner);
     decoded(ended, read, written)
 }
 
@@ -281,8 +250,7 @@ pub extern "C" fn encoding_text_utf16_decoder_decode_to_utf8(
         → (0 < result.read) ⊎ (result.result ≡ 2) }
 {
     let mut inner = restored(*decoder);
-    let pending_length = pending_count(&inner);
     let (ended, read, written) = inner.decode_to_utf8_raw(src, dst, last);
-    store(decoder, &inner, pending_length, &src[..read]);
+    store(decoder, &inner);
     decoded(ended, read, written)
 }

@@ -6,8 +6,8 @@ use Rattle.encoding_c.specs.States.{RepresentsUtf16}
 use Rattle.encoding_c.proofs.Utf16StateLemmas.{pending_again}
 use Rattle.encoding_c.proofs.utf16_decoder.restored_pending.Goals as goal
 
-pub returns-clause-stands : goal.returns-clause-stands
-returns-clause-stands c =
+pub returns : goal.returns
+returns c =
     let r = c.decode_to_utf16_raw-ended in
     let src = take c.from-count.result c.args.state.pending in
     let fresh = c.new-decoder.ensures in
