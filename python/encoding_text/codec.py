@@ -9,7 +9,8 @@
 
 The names are encoding_text_utf_8, encoding_text_utf_16_le and encoding_text_utf_16_be. A mark of any of the three at the
 start decides the encoding, and is removed; without one, it is that of the name (Encoding Standard, "decode"). Each
-malformed sequence is one error. What is written has no mark, and is CPython's own.
+malformed sequence is one UnicodeDecodeError for the handler that `errors` names. Handlers are those of
+codecs.register_error, and are called as by CPython's own codecs. What is written has no mark, and is CPython's own.
 """
 import codecs
 from typing import Optional
@@ -20,13 +21,12 @@ __all__ = ['IncrementalDecoder', 'StreamReader', 'search']
 
 _PREFIX = 'encoding_text_'
 _NAMES = ('utf-8', 'utf-16-le', 'utf-16-be')
-_ENCODERS = (codecs.utf_8_encode, codecs.utf_16_le_encode, codecs.utf_16_be_encode)
 _SNIFF = 2
 
 
 class IncrementalDecoder(codecs.IncrementalDecoder):
-    """Decodes bytes in pieces, which may end at any byte. `errors` is 'strict', 'replace' or any name of
-    codecs.register_error whose handler goes on after the malformed sequence."""
+    """Decodes bytes in pieces, which may end at any byte. `errors` is the name of a handler of codecs.register_error. A
+    copy, by copy or pickle, has the same state and shares nothing with the original."""
 
     _number = 0
 
@@ -42,30 +42,7 @@ class IncrementalDecoder(codecs.IncrementalDecoder):
 
     def decode(self, input, final=False):
         """Returns the text of the next bytes. If the call fails, the decoder is unchanged."""
-        if self.errors == 'replace':
-            return self._native.decode(input, 0, final, True)[0]
-        before = self._native.getstate()
-        try:
-            return self._decode(input, final, before[0])
-        except BaseException:
-            self._native.setstate(*before)
-            raise
-
-    def _decode(self, input, final, pending):
-        texts = []
-        offset = 0
-        while True:
-            text, offset, length, after = self._native.decode(input, offset, final, False)
-            texts.append(text)
-            if length == 0:
-                return ''.join(texts)
-            data = pending + bytes(input)
-            end = len(pending) + offset - after
-            error = UnicodeDecodeError(self.encoding, data, end - length, end, 'malformed sequence')
-            replacement, position = codecs.lookup_error(self.errors)(error)
-            if position % (len(data) + 1) != end:
-                raise error
-            texts.append(replacement)
+        return self._native.decode(input, final, self.errors)
 
     def reset(self):
         """Forgets all that was read."""
@@ -81,29 +58,80 @@ class IncrementalDecoder(codecs.IncrementalDecoder):
         pending, number = state
         self._native.setstate(pending, number % len(_NAMES), _SNIFF - number // len(_NAMES))
 
+    def __getstate__(self):
+        return {**self.__dict__, '_native': self._native.getstate()}
+
+    def __setstate__(self, state):
+        self.__dict__.update(state)
+        self._native = _native.Decoder()
+        self._native.setstate(*state['_native'])
+
+
+class _Utf16LeDecoder(IncrementalDecoder):
+    """IncrementalDecoder of UTF-16LE unless a mark decides."""
+    _number = 1
+
+
+class _Utf16BeDecoder(IncrementalDecoder):
+    """IncrementalDecoder of UTF-16BE unless a mark decides."""
+    _number = 2
+
 
 class StreamReader(codecs.StreamReader):
-    """Reads text from a stream of bytes. An incomplete sequence at the end of the stream is malformed."""
+    """Reads text from a stream of bytes. An incomplete sequence at the end of the stream is malformed, and is reported
+    after the text before it. Until reset(), each further call at the end reports it again."""
 
     _decoder = IncrementalDecoder
 
     def __init__(self, stream, errors='strict'):
         super().__init__(stream, errors)
         self._bytes = self._decoder(errors)
-        self._is_at_end = False
+        self._is_in_line = self._has_text = False
 
     def decode(self, input, errors='strict'):
-        """Returns the text of the next bytes, and their number."""
-        self._is_at_end = False
-        return self._bytes.decode(input), len(input)
+        """Returns the text of the next bytes, and the number of bytes before an incomplete sequence at their end, which
+        the next call has to begin with."""
+        return self._decode(input, errors, False)
+
+    def _decode(self, input, errors, final):
+        self._bytes.errors = errors
+        text = self._bytes.decode(input, final)
+        pending, number = self._bytes.getstate()
+        self._bytes.setstate((b'', number))
+        return text, len(input) - len(pending)
 
     def read(self, size=-1, chars=-1, firstline=False):
         """Reads as codecs.StreamReader.read does."""
-        self._is_at_end = size != 0 and chars != 0
         text = super().read(size, chars, firstline)
-        if size < 0 and chars < 0 or self._is_at_end and not text:
-            text += self._bytes.decode(b'', True)
+        is_whole = size < 0 and chars < 0
+        if self.bytebuffer and (is_whole or size != 0 and chars != 0 and not text):
+            text = self._read_end(text, -1 if is_whole else chars if chars >= 0 else size)
+        self._has_text = self._has_text or text != ''
         return text
+
+    def _read_end(self, text, chars):
+        """Returns a text and that of the incomplete sequence at the end of the stream, of which at most `chars` characters
+        unless that is negative."""
+        try:
+            end, _ = self._decode(self.bytebuffer, self.errors, True)
+        except UnicodeDecodeError:
+            if self._is_in_line and self._has_text:
+                return text  # the line comes first, and this with the next call
+            self.charbuffer = text
+            raise
+        self.bytebuffer = b''
+        if chars >= 0:
+            self.charbuffer = end[chars:]
+            end = end[:chars]
+        return text + end
+
+    def readline(self, size=None, keepends=True):
+        """Reads a line as codecs.StreamReader.readline does."""
+        self._is_in_line, self._has_text = True, False
+        try:
+            return super().readline(size, keepends)
+        finally:
+            self._is_in_line = False
 
     def reset(self):
         """Forgets all that was read."""
@@ -111,34 +139,28 @@ class StreamReader(codecs.StreamReader):
         self._bytes.reset()
 
 
-def _info(number):
-    name = _PREFIX + _NAMES[number].replace('-', '_')
+class _Utf16LeReader(StreamReader):
+    """StreamReader of UTF-16LE unless a mark decides."""
+    _decoder = _Utf16LeDecoder
 
-    class Decoder(IncrementalDecoder):
-        """IncrementalDecoder with another encoding unless a mark decides."""
-        _number = number
 
-    class Reader(StreamReader):
-        """StreamReader with another encoding unless a mark decides."""
-        _decoder = Decoder
+class _Utf16BeReader(StreamReader):
+    """StreamReader of UTF-16BE unless a mark decides."""
+    _decoder = _Utf16BeDecoder
 
-    class Encoder(codecs.IncrementalEncoder):
-        """Encodes text in pieces."""
 
-        def encode(self, input, final=False):
-            return _ENCODERS[number](input, self.errors)[0]
-
-    class Writer(codecs.StreamWriter):
-        """Writes text to a stream of bytes."""
-        encode = staticmethod(_ENCODERS[number])
+def _info(own, reader):
+    """Returns the codec that decodes as a StreamReader does, and encodes as CPython's own codec of this name."""
+    encoder = codecs.lookup(own)
 
     def decode(input, errors='strict'):
-        return Decoder(errors).decode(input, True), len(input)
+        return reader._decoder(errors).decode(input, True), memoryview(input).nbytes
 
-    return codecs.CodecInfo(_ENCODERS[number], decode, Reader, Writer, Encoder, Decoder, name=name)
+    return codecs.CodecInfo(encoder.encode, decode, reader, encoder.streamwriter, encoder.incrementalencoder,
+                            reader._decoder, name=_PREFIX + own.replace('-', '_'))
 
 
-_INFOS = {info.name: info for info in map(_info, range(len(_NAMES)))}
+_INFOS = {info.name: info for info in map(_info, _NAMES, (StreamReader, _Utf16LeReader, _Utf16BeReader))}
 
 
 def search(name: str) -> Optional[codecs.CodecInfo]:

@@ -14,7 +14,7 @@ typedef struct {
     PyObject_HEAD
     encoding_text_utf8_decoder decoder;
     unsigned long long replaced;
-    unsigned long long offset; /* how many bytes were read */
+    unsigned long long offset; /* how many bytes of the stream were read */
 } incremental;
 
 /* Repairs bytes without a call of Python. Returns false if there is no memory. */
@@ -36,6 +36,12 @@ static bool repair_piece(encoding_text_utf8_decoder *decoder, const uint8_t *byt
     return true;
 }
 
+/* Counts the bytes of a piece. What follows the last one is another stream. */
+static void count_read(incremental *self, const encoding_source *source, bool last)
+{
+    self->offset = last ? 0 : self->offset + source->length;
+}
+
 /* Repairs the next piece. If it fails, the object is unchanged. */
 static PyObject *repair_source(incremental *self, const encoding_source *source, bool last)
 {
@@ -45,7 +51,9 @@ static PyObject *repair_source(incremental *self, const encoding_source *source,
     size_t replaced = 0;
     if (valid == source->length && encoding_text_utf8_decoder_in_neutral_state(&decoder)) {
         PyObject *unchanged = output_unchanged(source);
-        self->offset += unchanged != NULL ? source->length : 0;
+        if (unchanged != NULL) {
+            count_read(self, source, last);
+        }
         return unchanged;
     }
     output_begin(&out);
@@ -61,7 +69,7 @@ static PyObject *repair_source(incremental *self, const encoding_source *source,
     if (result != NULL) {
         self->decoder = decoder;
         self->replaced += replaced;
-        self->offset += source->length;
+        count_read(self, source, last);
     }
     return result;
 }
@@ -126,7 +134,7 @@ static PyObject *report_source(incremental *self, const encoding_source *source,
     if (result != NULL) {
         self->decoder = decoder;
         self->replaced += (unsigned long long)count;
-        self->offset += source->length;
+        count_read(self, source, last);
     }
     return result;
 }
@@ -228,14 +236,15 @@ PyDoc_STRVAR(type_doc,
 PyDoc_STRVAR(decode_doc,
              "decode($self, /, input, final=False)\n--\n\n"
              "Return the next bytes, with U+FFFD for each malformed sequence.\n\n"
-             "If final is true, an incomplete sequence at the end is malformed. If the call fails,\n"
-             "the object is unchanged.");
+             "If final is true, an incomplete sequence at the end is malformed, and the next call begins\n"
+             "another stream. If the call fails, the object is unchanged.");
 PyDoc_STRVAR(report_doc,
              "report($self, /, input, final=False)\n--\n\n"
              "Return what decode() returns, and a list of the malformed sequences that it replaced, as\n"
              "(offset, length).\n\n"
-             "Offsets count all bytes since the last reset(), or since the object was made. If the call\n"
-             "fails, the object is unchanged. Other threads wait for it.");
+             "Offsets count the bytes of the stream: all since the last call with final=True or reset(), or\n"
+             "since the object was made. If the call fails, the object is unchanged. Other threads wait for\n"
+             "it.");
 PyDoc_STRVAR(reset_doc,
              "reset($self, /)\n--\n\n"
              "Forget an incomplete sequence, and set replaced and the offset to 0.");

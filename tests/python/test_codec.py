@@ -1,7 +1,9 @@
 """The codecs of encoding_text.codec, compared with CPython's own."""
 import codecs
+import copy
 import io
 import os
+import pickle
 import random
 import tempfile
 import unittest
@@ -113,8 +115,6 @@ class Errors(unittest.TestCase):
         self.assertEqual(data.decode(NAMES[0], 'surrogateescape'), data.decode('utf-8', 'surrogateescape'))
         parts = (b'\x3d\xd8b', b'\0\x3d\xd8')
         self.assertEqual(decoded(NAMES[1], parts, 'backslashreplace'), '\\x3d\\xd8b\\x3d\\xd8')
-        codecs.register_error('encoding_text.back', lambda error: ('', error.start))
-        self.assertRaises(UnicodeDecodeError, data.decode, NAMES[0], 'encoding_text.back')
 
 
 class Interfaces(unittest.TestCase):
@@ -178,13 +178,62 @@ class Interfaces(unittest.TestCase):
         self.assertEqual((decoder.encoding, decoder.getstate()), ('utf-16-be', (b'', 2)))
         self.assertRaises(ValueError, decoder.setstate, (b'abcd', 0))
 
-    def test_offsets(self):
-        """The decoder of the extension takes an offset, which has to be in the bytes or at their end."""
-        decoder = codec._native.Decoder()
-        self.assertEqual(decoder.decode(b'ab', 1, True, True), ('b', 2, 0, 0))
-        self.assertEqual(decoder.decode(b'ab', 2, True, True), ('', 2, 0, 0))
-        for offset in (-1, 3, 1 << 40):
-            self.assertRaises(IndexError, decoder.decode, b'ab', offset, True, True)
+
+class Labelled(codec.IncrementalDecoder):
+    """A decoder with an attribute of its own."""
+    label = None
+
+
+class Copies(unittest.TestCase):
+    """Copies of incremental decoders, which CPython's own can be, too."""
+    WAYS = [copy.copy, copy.deepcopy] + [
+        lambda decoder, protocol=protocol: pickle.loads(pickle.dumps(decoder, protocol))
+        for protocol in range(pickle.HIGHEST_PROTOCOL + 1)]
+
+    def test_at_each_place(self):
+        """The copy and the original go on by themselves, with the same text as CPython's decoder."""
+        text = 'a\xe9\u4f60\U0001f600\ufffd'
+        for name, own in zip(NAMES, OWN):
+            for mark in (b'', '\ufeff'.encode(own)):
+                data = mark + text.encode(own)
+                for place in range(len(data) + 1):
+                    for way in self.WAYS:
+                        decoder = codecs.getincrementaldecoder(name)('replace')
+                        before = decoder.decode(data[:place])
+                        copied = way(decoder)
+                        self.assertEqual((copied.getstate(), copied.errors), (decoder.getstate(), 'replace'))
+                        self.assertEqual(before + decoder.decode(data[place:]) + decoder.decode(b'', True), text)
+                        self.assertEqual(before + copied.decode(data[place:]) + copied.decode(b'', True), text)
+
+    def test_a_copy_does_not_change_the_original(self):
+        for way in self.WAYS:
+            decoder = codecs.getincrementaldecoder(NAMES[0])()
+            self.assertEqual(decoder.decode(b'\xe2'), '')
+            copied = way(decoder)
+            self.assertIs(type(copied), type(decoder))
+            self.assertEqual(copied.decode(b'\x98\x83'), '\u2603')
+            self.assertEqual((decoder.getstate()[0], copied.getstate()[0]), (b'\xe2', b''))
+            other = way(decoder)
+            copied.reset()
+            self.assertEqual(decoder.decode(b'\x98\x83', True), '\u2603')
+            self.assertEqual(other.decode(b'\x98\x83', True), '\u2603')
+
+    def test_encoding_and_attributes(self):
+        decoder = Labelled('ignore')
+        decoder.label = ['any']
+        decoder.decode(b'\xfe\xff\0')
+        for way in self.WAYS:
+            copied = way(decoder)
+            self.assertEqual((copied.encoding, copied.label, copied.errors), ('utf-16-be', ['any'], 'ignore'))
+            self.assertEqual(copied.decode(b'a\xd8', True), 'a')
+        self.assertIs(copy.copy(decoder).label, decoder.label)
+        self.assertIsNot(copy.deepcopy(decoder).label, decoder.label)
+
+    def test_incremental_encoders(self):
+        for name in NAMES:
+            for way in self.WAYS:
+                encoder = way(codecs.getincrementalencoder(name)('ignore'))
+                self.assertEqual(encoder.encode('a\ud800'), 'a'.encode(name))
 
 
 if __name__ == '__main__':

@@ -93,6 +93,22 @@ class Incremental(unittest.TestCase):
         self.assertEqual(repair.report(input=b'', final=True), (b'', []))
         self.assertRaises(TypeError, repair.report, 'text')
 
+    def test_places_after_a_last_call(self):
+        """A call with final=True ends the stream, and offsets of the next one begin at 0. `replaced` counts on."""
+        rows = ((b'abc', []), (b'ab\xff', [(2, 1)]), (b'ab\xe2', [(2, 1)]), (b'', []), (b'\xff' * 70000, None))
+        for data, places in rows:
+            for first in ('decode', 'report'):
+                for last in ('decode', 'report'):
+                    repair = encoding_text.IncrementalRepair()
+                    getattr(repair, first)(b'xy')
+                    ended = getattr(repair, last)(data, True)
+                    if last == 'report' and places is not None:
+                        self.assertEqual(ended[1], [(2 + offset, length) for offset, length in places])
+                    replaced = repair.replaced
+                    self.assertEqual(repair.report(b'z\xff')[1], [(1, 1)])
+                    self.assertEqual(repair.report(b'\xff')[1], [(2, 1)])
+                    self.assertEqual(repair.replaced, replaced + 2)
+
     def test_final_with_bytes(self):
         repair = encoding_text.IncrementalRepair()
         self.assertEqual(repair.decode(b'a\xe2', True), b'a\xef\xbf\xbd')

@@ -1,6 +1,10 @@
-"""Memory that fails, memory that is freed, and threads."""
+"""Memory that fails, memory that is freed, and threads. PYTHON in the environment is the command of this interpreter, if
+it can't be run by its name."""
 import gc
+import importlib.util
+import os
 import resource
+import shlex
 import subprocess
 import sys
 import threading
@@ -34,16 +38,49 @@ def decode(data):
     return encoding_text.codec.IncrementalDecoder('replace').decode(data, True)
 
 
+def decode_strictly(data):
+    try:
+        return encoding_text.codec.IncrementalDecoder().decode(data, True)
+    except UnicodeDecodeError as error:
+        return error.start
+
+
+def decode_by_handler(data):
+    return encoding_text.codec.IncrementalDecoder('backslashreplace').decode(data, True)
+
+
 CALLS = [encoding_text.repair, encoding_text.is_utf8, encoding_text.valid_up_to, iterate, incremental]
 
-# Limits the memory of the process to what it has and a little more, and repairs more than that.
-LIMITED = '''
-import encoding_text, resource
-data = b'a\\xff' * (32 << 20)
+# leave() limits the memory of the process to what it has and some more. An emulator may ignore that limit and have one of its
+# own, which is reached by mappings that stay.
+LEAVE = '''
+import mmap, resource
+def leave(space):
+    pages = int(open('/proc/self/statm').read().split()[0])
+    resource.setrlimit(resource.RLIMIT_AS, ((pages << 12) + space,) * 2)
+    kept = []
+    try:
+        spare = [mmap.mmap(-1, space)]
+        mmap.mmap(-1, space)
+    except OSError:
+        return
+    length = 1 << 30
+    while length >= 1 << 20:
+        try:
+            kept.append(mmap.mmap(-1, length))
+        except OSError:
+            length >>= 1
+    spare.clear()
+    return kept
+'''
+
+# Leaves a little memory, and repairs more than that.
+LIMITED = LEAVE + '''
+import encoding_text
+data = b'a\\xff' * (8 << 20)
 repair = encoding_text.IncrementalRepair()
 repair.decode(b'\\xe2')
-pages = int(open('/proc/self/statm').read().split()[0])
-resource.setrlimit(resource.RLIMIT_AS, ((pages << 12) + (16 << 20),) * 2)
+kept = leave(4 << 20)
 for call in (encoding_text.repair, repair.decode):
     try:
         call(data)
@@ -51,22 +88,26 @@ for call in (encoding_text.repair, repair.decode):
         print('MemoryError', repair.getstate(), repair.replaced)
 '''
 
-# The same with memory for the first buffer of a result, and not for the longer one that malformed bytes need.
-HALF = '''
-import codecs, encoding_text.codec, resource
+# The same with memory for the first buffer of a result, and not for the longer one that malformed bytes need. Each call frees
+# its buffer, also if it fails.
+HALF = LEAVE + '''
+import codecs, encoding_text.codec
 codecs.register(encoding_text.codec.search)
-data = b'\\xff' * (32 << 20)
+text = 'long' * (1 << 20)
+codecs.register_error('long', lambda error: (text, error.end))
+data = b'\\xff' * (8 << 20)
 repair = encoding_text.IncrementalRepair()
-text = codecs.getincrementaldecoder('encoding_text_utf_8')('replace')
-for each in (repair, text):
+texts = [codecs.getincrementaldecoder('encoding_text_utf_8')(errors) for errors in ('replace', 'surrogateescape', 'long')]
+for each in (repair, *texts):
     each.decode(b'a\\xe2')
-pages = int(open('/proc/self/statm').read().split()[0])
-resource.setrlimit(resource.RLIMIT_AS, ((pages << 12) + (64 << 20),) * 2)
-for each, call in ((repair, repair.decode), (text, text.decode), (repair, repair.report)):
-    try:
-        call(data)
-    except MemoryError:
-        print('MemoryError', each.getstate()[0], repair.replaced)
+kept = leave(16 << 20)
+for each, call in [(repair, repair.decode), (repair, repair.report)] + [(text, text.decode) for text in texts]:
+    for _ in range(3):
+        try:
+            call(data)
+        except MemoryError:
+            print('MemoryError', each.getstate()[0], repair.replaced)
+        bytearray(4 << 20)
 '''
 
 
@@ -129,10 +170,12 @@ class Memory(unittest.TestCase):
         return self.fail('it never succeeds')
 
     def test_limit(self):
-        done = subprocess.run([sys.executable, '-c', LIMITED], stdout=subprocess.PIPE, check=True, text=True)
-        self.assertEqual(done.stdout, "MemoryError (b'\\xe2', 0) 0\n" * 2)
-        done = subprocess.run([sys.executable, '-c', HALF], stdout=subprocess.PIPE, check=True, text=True)
-        self.assertEqual(done.stdout, "MemoryError b'\\xe2' 0\n" * 3)
+        self.assertEqual(self.written_by(LIMITED), "MemoryError (b'\\xe2', 0) 0\n" * 2)
+        self.assertEqual(self.written_by(HALF), "MemoryError b'\\xe2' 0\n" * 15)
+
+    def written_by(self, program):
+        command = shlex.split(os.environ.get('PYTHON', '')) or [sys.executable]
+        return subprocess.run([*command, '-c', program], stdout=subprocess.PIPE, check=True, text=True).stdout
 
     def test_all_memory_is_freed(self):
         def many():
@@ -164,7 +207,7 @@ class Memory(unittest.TestCase):
         self.assertLess(resource.getrusage(resource.RUSAGE_SELF).ru_maxrss - peak, 20_000)
 
     def test_objects_let_go_of_their_types(self):
-        for make in (encoding_text.IncrementalRepair, lambda: encoding_text.malformed(SHORT)):
+        for make in (encoding_text.IncrementalRepair, encoding_text._native.Decoder, lambda: encoding_text.malformed(SHORT)):
             kind = type(make())
             before = sys.getrefcount(kind)
             for _ in range(100):
@@ -182,6 +225,41 @@ class Memory(unittest.TestCase):
         del holder
         gc.collect()
         self.assertEqual(freed, [True])
+
+
+class Module(unittest.TestCase):
+    """The types of the extension, which the module and its iterators refer to."""
+
+    def types_of(self, module):
+        return [module.IncrementalRepair, module.Decoder, type(module.malformed(b''))]
+
+    def test_module_visits_its_types(self):
+        for kind in self.types_of(encoding_text._native):
+            self.assertIn(kind, gc.get_referents(encoding_text._native))
+
+    def test_module_frees_its_types(self):
+        before = self.number_of_types()
+        self.assertGreaterEqual(before, 3)
+        spec = importlib.util.spec_from_file_location('encoding_text._native', encoding_text._native.__file__)
+        module = importlib.util.module_from_spec(spec)
+        spec.loader.exec_module(module)
+        self.assertEqual(self.number_of_types(), before + 3)
+        del module, spec
+        gc.collect()
+        self.assertEqual(self.number_of_types(), before)
+
+    def number_of_types(self):
+        """Returns how many types have a name of one of the module's. The collector lists also what it can't free."""
+        names = {kind.__name__ for kind in self.types_of(encoding_text._native)}
+        return sum(type(each) is type and each.__name__ in names for each in gc.get_objects())
+
+    def test_iterator_visits_what_it_refers_to(self):
+        for data in (SHORT[:] + b'.', bytearray(SHORT)):
+            iterator = encoding_text.malformed(data)
+            found = gc.get_referents(iterator)
+            self.assertTrue(any(each is data for each in found), data)
+            if sys.version_info >= (3, 9):  # until then the types of iterators aren't visited
+                self.assertIn(type(iterator), found)
 
 
 class Threads(unittest.TestCase):
@@ -224,6 +302,35 @@ class Threads(unittest.TestCase):
                     name = getattr(call, '__name__', call)
                     self.assertTrue(self.lets_run(call, letters * (65536 + 2), 30), name)
                     self.assertFalse(self.lets_run(call, letters * 65535, 0.1), name)
+
+    def test_other_threads_run_in_each_mode(self):
+        for call in (decode_strictly, decode_by_handler):
+            self.assertTrue(self.lets_run(call, b'a' * (65536 + 2), 30), call.__name__)
+        # after a malformed sequence, once many bytes were without another
+        self.assertTrue(self.lets_run(decode_by_handler, bytearray(b'\xff' + b'a' * 200_000), 30))
+
+    def test_other_threads_wait_while_bytes_can_change(self):
+        """Another thread could write to any object but `bytes`."""
+        for call in (encoding_text.repair, encoding_text.is_utf8, encoding_text.valid_up_to, iterate, incremental, decode,
+                     decode_strictly, decode_by_handler):
+            for kind in (bytearray, memoryview, lambda data: memoryview(bytearray(data)).toreadonly()):
+                self.assertFalse(self.lets_run(call, kind(b'a' * (65536 + 2)), 0.05), (call.__name__, kind))
+
+    def test_bytes_are_held_while_they_are_read(self):
+        """A call that reads holds the bytes itself, since another one may end the iteration and let go of them."""
+        data = b'a' * (64 << 20)
+        seen = 0
+        for _ in range(100):
+            iterator = encoding_text.malformed(data)
+            before = sys.getrefcount(data)
+            thread = threading.Thread(target=next, args=(iterator, None))
+            thread.start()
+            while thread.is_alive() and seen <= before:
+                seen = max(seen, sys.getrefcount(data))
+            thread.join()
+            if seen > before:
+                break
+        self.assertEqual(seen, before + 1)
 
     def lets_run(self, call, data, seconds):
         """Returns whether another thread ran that waits while this one calls, though Python changes threads only each hour."""

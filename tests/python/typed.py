@@ -1,30 +1,46 @@
-"""A program that mypy has to accept."""
+"""A program that mypy has to accept. A type that is asserted is exactly that one: a bool, which is an int too, is no int."""
 import codecs
+import io
 import mmap
-from typing import List, Tuple
+from typing import Iterator, List, Optional, Tuple
 
 import encoding_text
 import encoding_text.codec
+from encoding_text import codec
+from typing_extensions import assert_type
 
-text, replaced = encoding_text.repair(b'')
-count: int = replaced
-data, lone = encoding_text.encode('')
-count += lone + len(data.decode())
-both: bytes = text + encoding_text.repair(bytearray())[0] + encoding_text.repair(memoryview(b''))[0]
-sound: bool = encoding_text.is_utf8(b'')
-length: int = encoding_text.valid_up_to(b'')
-found: List[Tuple[int, int]] = list(encoding_text.malformed(b''))
+assert_type(encoding_text.__version__, str)
+assert_type(encoding_text.repair(b''), Tuple[bytes, int])
+assert_type(encoding_text.repair(bytearray()), Tuple[bytes, int])
+assert_type(encoding_text.repair(memoryview(b'')), Tuple[bytes, int])
+assert_type(encoding_text.encode(''), Tuple[bytes, int])
+assert_type(encoding_text.is_utf8(b''), bool)
+assert_type(encoding_text.valid_up_to(b''), int)
+assert_type(encoding_text.malformed(b''), Iterator[Tuple[int, int]])
+
 repair = encoding_text.IncrementalRepair()
-part: bytes = repair.decode(b'', final=True)
-part, found = repair.report(b'', final=True)
+assert_type(repair.decode(b'', final=True), bytes)
+assert_type(repair.report(b'', final=True), Tuple[bytes, List[Tuple[int, int]]])
+assert_type(repair.getstate(), Tuple[bytes, int])
+assert_type(repair.replaced, int)
 repair.setstate(repair.getstate())
-count += repair.replaced
+repair.reset()
 
-
-codecs.register(encoding_text.codec.search)
-decoder = encoding_text.codec.IncrementalDecoder('replace')
-words: str = decoder.decode(memoryview(b''), final=True) + decoder.encoding
+codecs.register(codec.search)
+assert_type(codec.search(''), Optional[codecs.CodecInfo])
+decoder = codec.IncrementalDecoder('replace')
+assert_type(decoder.decode(memoryview(b''), final=True), str)
+assert_type(decoder.encoding, str)
+assert_type(decoder.errors, str)
+assert_type(decoder.getstate(), Tuple[bytes, int])
 decoder.setstate(decoder.getstate())
+decoder.reset()
+reader = codec.StreamReader(io.BytesIO(b''), errors='replace')
+assert_type(reader.decode(b''), Tuple[str, int])
+assert_type(reader.read(1, 2), str)
+assert_type(reader.readline(), str)
+assert_type(reader.readlines(), List[str])
+reader.reset()
 
 
 def mapped(file: mmap.mmap) -> bool:
