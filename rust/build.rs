@@ -6,14 +6,15 @@ use std::path::{Path, PathBuf};
 use std::process::{self, Command, Stdio};
 
 const FILE: &str = "libencoding_text.a";
+/// The oldest version whose library has each function that this crate calls.
+const OLDEST: &str = "0.1.1";
 /// The symbol of a library that is laid out as this crate says.
-const LAYOUT: &[u8] = concat!(
+const LAYOUT: &str = concat!(
     "encoding_text_layout_",
     env!("CARGO_PKG_VERSION_MAJOR"),
     "_",
     env!("CARGO_PKG_VERSION_MINOR")
-)
-.as_bytes();
+);
 const HELP: &str =
     "libencoding_text.a was not found: set ENCODING_TEXT_LIB_DIR to the folder that holds it, or install it \
     for pkg-config (make install), or put rt and make on the PATH in a checkout of the repository";
@@ -26,11 +27,18 @@ fn main() {
         .or_else(built)
         .unwrap_or_else(|| refuse(HELP));
     let file = folder.join(FILE);
-    if !has_layout(&file) {
+    let symbols = symbols(&file);
+    if !symbols.iter().any(|name| name == LAYOUT) {
         refuse(&format!(
             "{} is no library of version {}: set ENCODING_TEXT_LIB_DIR to the folder of one",
             file.display(),
             series().0
+        ));
+    }
+    if let Some(missing) = called().into_iter().find(|name| !symbols.contains(name)) {
+        refuse(&format!(
+            "{} is older than version {OLDEST}, since it has no {missing}: set ENCODING_TEXT_LIB_DIR to the folder of a newer one",
+            file.display()
         ));
     }
     println!("cargo:rerun-if-changed={}", file.display());
@@ -59,16 +67,32 @@ fn series() -> (String, String) {
     }
 }
 
-/// Returns whether the index of the archive names the symbol. After 68 bytes, which are the same in each archive but for
-/// dates and sizes, the index has the number of symbols, an offset of four bytes for each, and their names.
-fn has_layout(file: &Path) -> bool {
+/// Returns the symbols that the index of the archive names. After 68 bytes, which are the same in each archive but for dates
+/// and sizes, the index has the number of symbols, an offset of four bytes for each, and their names.
+fn symbols(file: &Path) -> Vec<String> {
     let bytes = fs::read(file).unwrap_or_default();
-    let has = |index: &[u8]| {
+    let named = |index: &[u8]| {
         let count = u32::from_be_bytes(index.get(..4)?.try_into().ok()?) as usize;
-        let names = index.get(4 + 4 * count..)?;
-        Some(names.split(|byte| *byte == 0).take(count).any(|name| name == LAYOUT))
+        let names = index.get(4 + 4 * count..)?.split(|byte| *byte == 0);
+        Some(
+            names
+                .take(count)
+                .map(|name| String::from_utf8_lossy(name).into_owned())
+                .collect(),
+        )
     };
-    bytes.get(68..).and_then(has).unwrap_or(false)
+    bytes.get(68..).and_then(named).unwrap_or_default()
+}
+
+/// Returns the functions of the library that this crate declares.
+fn called() -> Vec<String> {
+    println!("cargo:rerun-if-changed=src/c.rs");
+    let source = fs::read_to_string("src/c.rs").unwrap_or_else(|error| refuse(&format!("src/c.rs: {error}")));
+    let words = source.split(|letter: char| !letter.is_ascii_alphanumeric() && letter != '_');
+    words
+        .filter(|word| word.starts_with("encoding_text_"))
+        .map(String::from)
+        .collect()
 }
 
 /// Returns the folder that the environment names.
@@ -95,19 +119,23 @@ fn pkg_config(words: &[&str]) -> Option<String> {
     output.status.success().then(|| String::from_utf8(output.stdout).ok())?
 }
 
-/// Returns the folder that `pkg-config` reports for this version of the library or a later compatible one.
+/// Returns the folder that `pkg-config` reports for the oldest version of the library or a later compatible one.
 fn installed() -> Option<PathBuf> {
     for variable in ["PKG_CONFIG", "PKG_CONFIG_PATH", "PKG_CONFIG_LIBDIR"] {
         println!("cargo:rerun-if-env-changed={variable}");
     }
-    let oldest = concat!("encoding_text >= ", env!("CARGO_PKG_VERSION"));
-    pkg_config(&["--exists", oldest, &format!("encoding_text < {}", series().1)])?;
+    let (oldest, next) = (
+        format!("encoding_text >= {OLDEST}"),
+        format!("encoding_text < {}", series().1),
+    );
+    pkg_config(&["--exists", &oldest, &next])?;
     let folder = PathBuf::from(pkg_config(&["--variable=libdir", "encoding_text"])?.trim_end());
     (is_native() && folder.join(FILE).is_file()).then_some(folder)
 }
 
-/// Returns the folder of the library that the crate was packed with for this target. There is one for x86-64 Linux with
-/// glibc. Those in `x86_64-none` and `aarch64-none` need nothing of the system, and are only tried on Linux.
+/// Returns the folder of the library that the crate was packed with for this target: for x86-64 Linux with glibc, and in
+/// `x86_64-none` and `aarch64-none` those that need nothing of the system. The latter may use each register, so they are for
+/// Linux with glibc or musl alone: Android, OpenHarmony and others reserve x18 on ARM.
 fn packed() -> Option<PathBuf> {
     let crate_folder = PathBuf::from(env::var_os("CARGO_MANIFEST_DIR")?);
     let has = |folder: &PathBuf| folder.join(FILE).is_file();
@@ -118,13 +146,14 @@ fn packed() -> Option<PathBuf> {
     let target = |name: &str| env::var(format!("CARGO_CFG_TARGET_{name}")).unwrap_or_default();
     let machine = target("ARCH");
     let for_glibc = crate_folder.join(format!("{machine}-linux-{}", target("ENV")));
-    let is_linux = target("OS") == "linux" && target("POINTER_WIDTH") == "64" && target("ENDIAN") == "little";
+    let is_linux = target("OS") == "linux" && ["gnu", "musl"].contains(&target("ENV").as_str());
+    let is_64_bit = target("POINTER_WIDTH") == "64" && target("ENDIAN") == "little";
     let found = [for_glibc, of_no_system(&machine)].into_iter().find(has);
     match found {
-        Some(folder) if is_linux => Some(folder),
+        Some(folder) if is_linux && is_64_bit => Some(folder),
         _ => refuse(&format!(
-            "the crate has libraries for x86-64 and 64-bit ARM Linux, and the target is {}: set ENCODING_TEXT_LIB_DIR to the \
-            folder of a library for it",
+            "the crate has libraries for x86-64 and 64-bit ARM Linux with glibc or musl, and the target is {}: set \
+            ENCODING_TEXT_LIB_DIR to the folder of a library for it",
             env::var("TARGET").unwrap_or_default()
         )),
     }

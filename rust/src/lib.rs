@@ -46,8 +46,9 @@
 //! # Where the library is
 //!
 //! `build.rs` takes the library from the folder that `ENCODING_TEXT_LIB_DIR` names, else from `pkg-config`, else from a
-//! released crate, which has those for x86-64 and 64-bit ARM Linux. Otherwise `make` builds it at the top of the
-//! repository with its toolchain. A library of another version is refused, unless it is a later compatible one.
+//! released crate, which has those for x86-64 and 64-bit ARM Linux with glibc or musl. Otherwise `make` builds it at the top
+//! of the repository with its toolchain. A library of another version is refused, unless it is a later compatible one, and so
+//! is one without a function that this crate calls.
 //!
 //! When a program starts on x86-64 with glibc, the library selects its build for x86-64-v3 if the processor runs that,
 //! else the one for x86-64-v2. `ENCODING_TEXT_CPU=x86-64-v2` in the environment always selects the latter. With musl,

@@ -10,12 +10,15 @@ struct Row {
     sniffed: &'static str,
     removed: &'static str,
     kept: &'static str,
+    /// Whether a sequence is malformed, for each of the three.
+    had_errors: [bool; 3],
 }
 
 fn row(
     bytes: &'static [u8],
     [encoding, decided]: [&'static Encoding; 2],
     [sniffed, removed, kept]: [&'static str; 3],
+    had_errors: [bool; 3],
 ) -> Row {
     Row {
         bytes,
@@ -24,40 +27,72 @@ fn row(
         sniffed,
         removed,
         kept,
+        had_errors,
     }
 }
 
-fn rows() -> [Row; 6] {
+/// Some streams have a malformed sequence, some have U+FFFD itself, and some have both.
+fn rows() -> [Row; 13] {
     let other = "\u{EFBB}\u{BF61}\u{FFFD}";
     [
-        row(b"\xEF\xBB\xBFa\xFF", [UTF_16BE, UTF_8], ["a\u{FFFD}", other, other]),
-        row(b"\xFF\xFEa\0", [UTF_16LE, UTF_16LE], ["a", "a", "\u{FEFF}a"]),
+        row(
+            b"\xEF\xBB\xBFa\xFF",
+            [UTF_16BE, UTF_8],
+            ["a\u{FFFD}", other, other],
+            [true; 3],
+        ),
+        row(
+            b"\xFF\xFEa\0",
+            [UTF_16LE, UTF_16LE],
+            ["a", "a", "\u{FEFF}a"],
+            [false; 3],
+        ),
         row(
             b"\xFF\xFEa\0",
             [UTF_16BE, UTF_16LE],
             ["a", "\u{FFFE}\u{6100}", "\u{FFFE}\u{6100}"],
+            [false; 3],
         ),
         row(
             b"\xEF\xBB\xBF\xEF\xBB\xBF",
             [UTF_8, UTF_8],
             ["\u{FEFF}", "\u{FEFF}", "\u{FEFF}\u{FEFF}"],
+            [false; 3],
         ),
         row(
             b"\xFE\xFF\xD8",
             [UTF_8, UTF_16BE],
             ["\u{FFFD}", "\u{FFFD}\u{FFFD}\u{FFFD}", "\u{FFFD}\u{FFFD}\u{FFFD}"],
+            [true; 3],
         ),
         row(
             b"\xFE\xFF\xD8",
             [UTF_16BE, UTF_16BE],
             ["\u{FFFD}", "\u{FFFD}", "\u{FEFF}\u{FFFD}"],
+            [true; 3],
         ),
+        row(b"\xEF\xBF\xBDa", [UTF_8, UTF_8], ["\u{FFFD}a"; 3], [false; 3]),
+        row(
+            b"\xEF\xBB\xBF\xEF\xBF\xBD",
+            [UTF_8, UTF_8],
+            ["\u{FFFD}", "\u{FFFD}", "\u{FEFF}\u{FFFD}"],
+            [false; 3],
+        ),
+        row(b"\xEF\xBF\xBD\xFF", [UTF_8, UTF_8], ["\u{FFFD}\u{FFFD}"; 3], [true; 3]),
+        row(
+            b"\xEF\xBB\xBF\xEF\xBF\xBDa",
+            [UTF_16BE, UTF_8],
+            [
+                "\u{FFFD}a",
+                "\u{EFBB}\u{BFEF}\u{BFBD}\u{FFFD}",
+                "\u{EFBB}\u{BFEF}\u{BFBD}\u{FFFD}",
+            ],
+            [false, true, true],
+        ),
+        row(b"\xFD\xFFa\0", [UTF_16LE, UTF_16LE], ["\u{FFFD}a"; 3], [false; 3]),
+        row(b"\xFF\xFD\0a", [UTF_16BE, UTF_16BE], ["\u{FFFD}a"; 3], [false; 3]),
+        row(b"\xFD\xFFa", [UTF_16LE, UTF_16LE], ["\u{FFFD}\u{FFFD}"; 3], [true; 3]),
     ]
-}
-
-/// Returns whether a text of the rows has U+FFFD: none of their streams has it.
-fn has_errors(text: &str) -> bool {
-    text.contains('\u{FFFD}')
 }
 
 /// Decodes bytes in two pieces. Returns the encoding, the text, and whether U+FFFD was written.
@@ -76,17 +111,20 @@ fn decoded(mut decoder: Decoder, bytes: &[u8], cut: usize) -> (&'static Encoding
 #[test]
 fn marks() {
     for row in rows() {
-        let wanted = |encoding, text: &str| (encoding, text.to_owned(), has_errors(text));
+        let [sniffed, removed, kept] = row.had_errors;
         for cut in 0..=row.bytes.len() {
             let found = |decoder| decoded(decoder, row.bytes, cut);
-            assert_eq!(found(row.encoding.new_decoder()), wanted(row.decided, row.sniffed));
+            assert_eq!(
+                found(row.encoding.new_decoder()),
+                (row.decided, row.sniffed.to_owned(), sniffed)
+            );
             assert_eq!(
                 found(row.encoding.new_decoder_with_bom_removal()),
-                wanted(row.encoding, row.removed)
+                (row.encoding, row.removed.to_owned(), removed)
             );
             assert_eq!(
                 found(row.encoding.new_decoder_without_bom_handling()),
-                wanted(row.encoding, row.kept)
+                (row.encoding, row.kept.to_owned(), kept)
             );
         }
     }
@@ -96,19 +134,17 @@ fn marks() {
 #[test]
 fn whole_texts() {
     for row in rows() {
+        let [sniffed, removed, kept] = row.had_errors;
         let (text, encoding, had_errors) = row.encoding.decode(row.bytes);
-        assert_eq!(
-            (&*text, encoding, had_errors),
-            (row.sniffed, row.decided, has_errors(row.sniffed))
-        );
+        assert_eq!((&*text, encoding, had_errors), (row.sniffed, row.decided, sniffed));
         let (text, had_errors) = row.encoding.decode_with_bom_removal(row.bytes);
-        assert_eq!((&*text, had_errors), (row.removed, has_errors(row.removed)));
+        assert_eq!((&*text, had_errors), (row.removed, removed));
         let (text, had_errors) = row.encoding.decode_without_bom_handling(row.bytes);
-        assert_eq!((&*text, had_errors), (row.kept, has_errors(row.kept)));
+        assert_eq!((&*text, had_errors), (row.kept, kept));
         let text = row
             .encoding
             .decode_without_bom_handling_and_without_replacement(row.bytes);
-        assert_eq!(text.as_deref(), (!has_errors(row.kept)).then_some(row.kept));
+        assert_eq!(text.as_deref(), (!kept).then_some(row.kept));
     }
 }
 

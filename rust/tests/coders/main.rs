@@ -10,5 +10,6 @@ mod indices;
 mod parts;
 mod random;
 mod runs;
+mod texts;
 mod types;
 mod utf16;

@@ -91,9 +91,8 @@ fn decoder() {
 }
 
 /// Code units: of text, and with unpaired surrogates, also at the end.
-#[test]
-fn encoder() {
-    let rows: [(&str, Vec<u16>); 6] = [
+fn rows_of_units() -> [(&'static str, Vec<u16>); 6] {
+    [
         ("letters", repeated(&[0x61])),
         ("snowmen", repeated(&[0x2603])),
         ("pairs, the last one cut", repeated(&[0xD83D, 0xDE00])),
@@ -103,13 +102,51 @@ fn encoder() {
         ),
         ("high surrogates", repeated(&[0xD83D])),
         ("low surrogates between letters", repeated(&[0xDE00, 0x61])),
-    ];
-    for (row, units) in rows {
+    ]
+}
+
+#[test]
+fn encoder() {
+    for (row, units) in rows_of_units() {
         let wanted = String::from_utf16_lossy(&units);
         let mut bytes = vec![0; 3 * LENGTH];
         let (result, read, written) = Utf8Encoder::new_inner().encode_from_utf16_raw(&units, &mut bytes, true);
         assert_eq!((result, read), (EncoderResult::InputEmpty, LENGTH), "{row}");
         assert!(&bytes[..written] == wanted.as_bytes(), "{row}");
+    }
+}
+
+/// UTF-16 of more than a megabyte, decoded whole and into the spare capacity of a text that has just enough for a next
+/// character.
+#[cfg(feature = "alloc")]
+#[test]
+fn encodings_of_units() {
+    use encoding_text::{CoderResult, UTF_16BE, UTF_16LE};
+    for (index, (row, units)) in rows_of_units().iter().enumerate() {
+        // an odd number, so that a pair is cut
+        let units = &units[..LENGTH / 2 - 1];
+        let wanted = String::from_utf16_lossy(units);
+        let is_malformed = String::from_utf16(units).is_err();
+        let (encoding, bytes_of) = match index % 2 {
+            0 => (UTF_16LE, u16::to_le_bytes as fn(u16) -> [u8; 2]),
+            _ => (UTF_16BE, u16::to_be_bytes as fn(u16) -> [u8; 2]),
+        };
+        let mut bytes = vec![0; 2 * units.len()];
+        for (pair, unit) in bytes.chunks_exact_mut(2).zip(units) {
+            pair.copy_from_slice(&bytes_of(*unit));
+        }
+        let (text, decided, had_errors) = encoding.decode(&bytes);
+        assert_eq!(
+            (text == wanted, decided, had_errors),
+            (true, encoding, is_malformed),
+            "{row}"
+        );
+        let text = encoding.decode_without_bom_handling_and_without_replacement(&bytes);
+        assert!(text.as_deref() == (!is_malformed).then_some(&*wanted), "{row}");
+        let mut text = String::with_capacity(wanted.len() + 3);
+        let found = encoding.new_decoder().decode_to_string(&bytes, &mut text, true);
+        assert_eq!(found, (CoderResult::InputEmpty, bytes.len(), is_malformed), "{row}");
+        assert!(text == wanted, "{row}");
     }
 }
 
@@ -143,6 +180,27 @@ fn repair() {
         assert!(repaired == wanted, "{row}");
         let are_borrowed = [&repaired, &wanted].map(|text| matches!(text, Cow::Borrowed(_)));
         assert_eq!(are_borrowed[0], are_borrowed[1], "{row}");
+    }
+}
+
+/// UTF-8, decoded whole and into the spare capacity of a text that has just enough for a next character.
+#[cfg(feature = "alloc")]
+#[test]
+fn encoding_of_bytes() {
+    use encoding_text::{CoderResult, UTF_8};
+    for (row, bytes) in rows() {
+        let wanted = String::from_utf8_lossy(&bytes);
+        let is_malformed = std::str::from_utf8(&bytes).is_err();
+        let (text, decided, had_errors) = UTF_8.decode(&bytes);
+        assert_eq!(
+            (text == wanted, decided, had_errors),
+            (true, UTF_8, is_malformed),
+            "{row}"
+        );
+        let mut text = String::with_capacity(wanted.len() + 3);
+        let found = UTF_8.new_decoder().decode_to_string(&bytes, &mut text, true);
+        assert_eq!(found, (CoderResult::InputEmpty, bytes.len(), is_malformed), "{row}");
+        assert!(text == wanted, "{row}");
     }
 }
 
