@@ -19,20 +19,39 @@ machines=(x86_64 aarch64)
 # shellcheck disable=SC2034 # the scripts use them
 programs=(utf8_repair utf8_check)
 
-# Sets what depends on the machine: what GNU, Debian and readers call it, how the names of its tools begin, its compiler, and
-# the package of its C library. Then the folder of its build, and that of the archive that needs nothing of a system.
+# Debian's static C library for 64-bit ARM, with security updates, which release/arm_libc unpacks there.
+arm_libc=${XDG_CACHE_HOME:-${HOME:-}/.cache}/encoding_text/libc-arm64
+
+# Sets what depends on the machine: what GNU, Debian and readers call it, how the names of its tools begin, its compiler, the
+# package of its C library, and the words that link another one. Then the folder of its build, and that of the archive that
+# needs nothing of a system.
 # shellcheck disable=SC2034 # the scripts use them
 select_machine() { # the machine
     triplet=$1-linux-gnu
     case $1 in
         x86_64)
             architecture=amd64 named='x86-64' tools='' compiler=${CC:-cc} c_library=libc6-dev built=build plain=build/x86-64-v2
+            linking=()
             ;;
         aarch64)
             architecture=arm64 named='64-bit ARM' tools=${CROSS:-aarch64-linux-gnu-} compiler=${CROSS:-aarch64-linux-gnu-}gcc
             c_library=libc6-dev-arm64-cross built=build/aarch64 plain=build/aarch64
+            linking=()
+            [ ! -f "$arm_libc/version" ] || linking=("-B$arm_libc/lib" "-L$arm_libc/lib")
             ;;
     esac
+}
+
+# Prints the source of the C library that is linked into the programs: glibc (= VERSION). A package for another machine names
+# it as one of several.
+source_of_libc() {
+    local several
+    if [ "${#linking[@]}" != 0 ]; then
+        echo "glibc (= $(cat "$arm_libc/version"))"
+    else
+        several=$(dpkg-query -Wf '${Built-Using}' "${c_library:?}")
+        grep -o 'glibc (= [^)]*)' <<< "$several" || dpkg-query -Wf '${source:Package} (= ${source:Version})' "$c_library"
+    fi
 }
 
 # Installs into an empty folder what `make install` does, with the programs that $work has. Debug information goes.

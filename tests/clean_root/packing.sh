@@ -49,10 +49,15 @@ without() { # the command
     echo "PATH=$work/commands"
 }
 
-# Packing also writes the sizes to a page.
-sed -i '/^<!-- release\/sizes -->$/,/^<!-- end of release/{/^|/d}' "$copy/docs/PERFORMANCE.md"
+# Writes the sizes to a page without them, and succeeds if that is the page again.
+writes_sizes() {
+    sed -i '/^<!-- release\/sizes -->$/,/^<!-- end of release/{/^|/d}' "$copy/docs/PERFORMANCE.md"
+    "$copy/release/sizes" --write && cmp docs/PERFORMANCE.md "$copy/docs/PERFORMANCE.md" && cmp README.md "$copy/README.md"
+}
+
 step 'the same bytes in another folder' packs_the_same TMPDIR="$work"
-step 'its sizes in PERFORMANCE' cmp docs/PERFORMANCE.md "$copy/docs/PERFORMANCE.md"
+step 'packing changed no page' cmp docs/PERFORMANCE.md "$copy/docs/PERFORMANCE.md"
+step 'its sizes in PERFORMANCE' writes_sizes
 step 'the same bytes in memory' packs_the_same_in_memory
 for package in "$packed"/*.deb; do
     step "size of $(basename "$package")" has_size "$package"

@@ -25,7 +25,7 @@ printed='[ "$(./a.out)" = $(printf "a\357\277\275Z") ]'
 run_readme() {
     local on=${root##*/} part='Install a release'
     step "folders with the packages, on $on" inside 'for it in 1 2 3; do mkdir /srv/$it && cp /packed/* /srv/$it; done'
-    step "README's Debian packages, on $on" run_block README.md "$part" 1 /srv/1 "$printed && cmp repaired.txt <(./a.out | tr -d '\n')"
+    step "README's Debian packages, on $on" run_block README.md "$part" 1 /srv/1 "$printed && ./a.out > printed && tr -d '\n' < printed | cmp repaired.txt -"
     step "README's tarball, on $on" run_block README.md "$part" 2 /srv/2 "$printed"
     step "a crate to add it to, on $on" inside 'cd /srv/3 && cargo init -q --vcs none --name user .'
     step "README's crate and wheel, on $on" run_block README.md "$part" 3 /srv/3 \
