@@ -5,7 +5,7 @@
 #                               Each library holds a build for x86-64-v2 and one for x86-64-v3 (with AVX2), and selects
 #                               one at load time. The toolchain's output is in build/logs. Then builds the same for 64-bit
 #                               ARM in build/aarch64, with the tools aarch64-linux-gnu-gcc and so on, if they are there;
-#                               CROSS names others by what their names begin with.
+#                               CROSS names others by what their names begin with. With CI=true they have to be there.
 #   make CPU=x86-64-v3          Builds only for these processors; likewise CPU=x86-64-v2, CPU=x86-64 and CPU=aarch64.
 #   make check                  Calls each function of each build from C and C++, also with sanitizers and under
 #                               valgrind. Runs the examples with what `make install` puts into an empty folder.
@@ -15,7 +15,8 @@
 #                               lets the file for pkg-config name folders relative to its own.
 #   make uninstall PREFIX=/usr  Removes all of it.
 #   make release                Builds for both architectures, and writes the packages of both to build/release. Needs what
-#                               release/setup installs. `make pack` only packs what is built, without the toolchain.
+#                               release/setup installs. Refuses a tree that has no version of its own yet (release/ready).
+#   make pack                   Only packs what is built, in any tree, without the toolchain.
 #   make doc                    Writes HTML pages of the header and of the Rust crate to build/doc. Needs no build.
 ASKED := $(CPU)
 CPU ?= both
@@ -34,9 +35,7 @@ STRICT = -Wall -Wextra -Werror -pedantic -Ic/include
 SANITIZE = -g -fsanitize=address,undefined -fno-sanitize-recover=all
 VERSION := $(shell awk '$$2 ~ /_VERSION_(MAJOR|MINOR|PATCH)$$/ {printf "%s%s", dot, $$3; dot = "."}' c/include/encoding_text.h)
 SHARED = libencoding_text.so.$(firstword $(subst ., ,$(VERSION)))
-# The version node of the exported symbols. Before 1.0, a new minor number may change a layout.
-NODE = ENCODING_TEXT_$(basename $(VERSION))
-export CC CXX LD AR OBJCOPY CROSS SHARED VERSION NODE
+export CC CXX LD AR OBJCOPY CROSS SHARED VERSION
 
 ifneq ($(words $(CPU)) $(words $(filter $(CPUS),$(CPU))),1 1)
 $(error CPU=$(CPU) is none of these: $(CPUS))
@@ -80,7 +79,8 @@ ifneq ($(has_cross),)
 aarch64: $(BUILT:%=build/aarch64/%)
 else
 aarch64:
-	@echo 'the build for ARM64: left out, $(CROSS)gcc is not installed (tools/setup installs it)'
+	$(if $(filter true,$(CI)),$(need_cross))
+	@echo 'the build for ARM64: left out, $(CROSS)gcc is missing (tools/setup installs it)'
 endif
 
 cxx:
@@ -101,40 +101,66 @@ library = cd crates/encoding_runs && rt lib && cd ../encoding_streams && rt lib 
 FREESTANDING = -O2 -Wall -Wextra -fPIC -ffreestanding -fcf-protection=none -fno-asynchronous-unwind-tables -Ic/include
 PROGRAM_C = -std=c99 -D_POSIX_C_SOURCE=200809L -O2 -Wall -Wextra -fPIC
 
-# archive(the CPU, how long it takes, words for rt, the compiler, the archiver, objcopy): proves and builds the static library.
-# All CPUs share the proofs, so each but the first is only compiled. With objcopy, each function begins at a multiple of 64 bytes:
-# on x86-64 a jump that crosses one of 32 can be slow, so a function's speed would depend on the length of those before it.
-define archive
+# What the toolchain makes, before layout.o and the system's calls are linked to it. All after that depends on Makefile too, and
+# takes seconds, so that a change of Makefile proves nothing again.
+KEPT = libencoding_c.a $(foreach name,$(PROGRAMS),$(name).proved $(name).proved.o)
+.SECONDARY: $(foreach cpu,$(filter-out both,$(CPUS)),$(KEPT:%=build/$(cpu)/%))
+
+# proved(the CPU, words for rt): proves and builds the toolchain's static library. All CPUs share the proofs, so each but the
+# first is only compiled.
+define proved
 	@mkdir -p $(@D)
 	release/origin > $(@D)/origin
-	@$(progress) $(1)/library '$(2)' sh -c '$(library) $(3)'
-	$(4) $(FREESTANDING) -c -o $(@D)/layout.o c/layout.c
+	@$(progress) $(1)/library '5 to 11 min, 1 behind another' sh -c '$(library) $(2)'
 	cp crates/encoding_c/out/libencoding_c.a $@
-	$(if $(6),$(6) -D --set-section-alignment '.text.*=64' $@)
-	$(5) rsD $@ $(@D)/layout.o
 endef
 
-build/x86%/libencoding_text.a: $(SOURCES) c/layout.c
-	$(need_rt)$(need_cc)$(need_binutils)
-	$(call archive,x86$*,5 to 11 min$(comma) 1 behind another,--cpu=x86$*,$(CC),$(AR),$(OBJCOPY))
+# archive(the compiler, the archiver, objcopy): makes the static library. With objcopy, each function begins at a multiple of 64
+# bytes: on x86-64 a jump that crosses one of 32 can be slow, so a function's speed would depend on the length of those before it.
+define archive
+	$(1) $(FREESTANDING) -c -o $(@D)/layout.o c/layout.c
+	cp $< $@
+	$(if $(3),$(3) -D --set-section-alignment '.text.*=64' $@)
+	$(2) rsD $@ $(@D)/layout.o
+endef
 
-build/aarch64/libencoding_text.a: $(SOURCES) c/layout.c
+build/x86%/libencoding_c.a: $(SOURCES)
+	$(need_rt)$(need_cc)$(need_binutils)
+	$(call proved,x86$*,--cpu=x86$*)
+
+build/x86%/libencoding_text.a: build/x86%/libencoding_c.a c/layout.c c/include/encoding_text.h Makefile
+	$(need_cc)$(need_binutils)
+	$(call archive,$(CC),$(AR),$(OBJCOPY))
+
+build/aarch64/libencoding_c.a: $(SOURCES)
 	$(need_rt)$(need_cross)
-	$(call archive,aarch64,5 to 11 min$(comma) 1 behind another,--target aarch64-unknown-linux-gnu,$(CROSS)gcc,$(CROSS)ar)
+	$(call proved,aarch64,--target aarch64-unknown-linux-gnu)
+
+build/aarch64/libencoding_text.a: build/aarch64/libencoding_c.a c/layout.c c/include/encoding_text.h Makefile
+	$(need_cross)
+	$(call archive,$(CROSS)gcc,$(CROSS)ar)
 
 # program(its name): proves and links it. NAME.o has all of the program except the C library, for other links.
 define program
-build/x86%/$(1): $(SOURCES)
+build/x86%/$(1).proved build/x86%/$(1).proved.o: $(SOURCES)
 	$$(need_rt)$$(need_binutils)
 	@mkdir -p $$(@D)
 	@$$(progress) x86$$*/$(1) '1 min' sh -c 'cd crates/$(1) && rt run --cpu=x86$$* < /dev/null'
-	$$(LD) -r -o $$@.o crates/$(1)/out/$(1).o $$(calls_system)
-	cp crates/$(1)/out/$(1) $$@
+	cp crates/$(1)/out/$(1) $$(@D)/$(1).proved
+	cp crates/$(1)/out/$(1).o $$(@D)/$(1).proved.o
 
-build/aarch64/$(1): $(SOURCES) c/system.c c/object
+build/x86%/$(1): build/x86%/$(1).proved build/x86%/$(1).proved.o Makefile
+	$$(need_rt)$$(need_binutils)
+	$$(LD) -r -o $$@.o $$@.proved.o $$(calls_system)
+	cp $$@.proved $$@
+
+build/aarch64/$(1).proved.o: $(SOURCES) c/object
 	$$(need_rt)$$(need_cross)
 	@mkdir -p $$(@D)
-	@$$(progress) aarch64/$(1) '1 min' c/object $(1) aarch64-unknown-linux-gnu $$@.proved.o
+	@$$(progress) aarch64/$(1) '1 min' c/object $(1) aarch64-unknown-linux-gnu $$@
+
+build/aarch64/$(1): build/aarch64/$(1).proved.o c/system.c Makefile
+	$$(need_cross)
 	$$(CROSS)gcc $$(PROGRAM_C) -c -o $$@.system.o c/system.c
 	$$(CROSS)ld -r -o $$@.o $$@.proved.o $$@.system.o
 	$$(CROSS)gcc -static-pie -o $$@ $$@.o
@@ -147,19 +173,19 @@ build/both/$(1): build/x86-64-v2/$(1)
 endef
 $(foreach name,$(PROGRAMS),$(eval $(call program,$(name))))
 
-build/both/libencoding_text.a: build/x86-64-v2/libencoding_text.a build/x86-64-v3/libencoding_text.a build/names c/choose.c c/join
+build/both/libencoding_text.a: build/x86-64-v2/libencoding_text.a build/x86-64-v3/libencoding_text.a build/names c/choose.c c/join Makefile
 	$(need_cc)$(need_binutils)
 	@mkdir -p $(@D)
 	c/join build/names build/x86-64-v2/libencoding_text.a build/x86-64-v3/libencoding_text.a $@
 
 # The functions that the header declares.
-build/names: c/include/encoding_text.h
+build/names: c/include/encoding_text.h Makefile
 	$(need_cc)
 	@mkdir -p $(@D)
 	$(CC) -E -P $< | grep -o '\bencoding_text_[a-z0-9_]*(' | tr -d '(' | LC_ALL=C sort > $@
 
-build/exports: build/names
-	{ echo '$(NODE) { global:'; sed 's/$$/;/' $<; echo 'local: *; };'; } > $@
+build/exports: build/names c/symbols.txt c/exports Makefile
+	c/exports $< > $@
 
 # shared(the compiler): links the shared library
 define shared
@@ -167,11 +193,11 @@ define shared
 	    -o $@ -Wl,--whole-archive $< -Wl,--no-whole-archive
 endef
 
-build/aarch64/$(SHARED): build/aarch64/libencoding_text.a build/exports
+build/aarch64/$(SHARED): build/aarch64/libencoding_text.a build/exports Makefile
 	$(need_cross)
 	$(call shared,$(CROSS)gcc)
 
-build/%/$(SHARED): build/%/libencoding_text.a build/exports
+build/%/$(SHARED): build/%/libencoding_text.a build/exports Makefile
 	$(need_cc)
 	$(call shared,$(CC))
 
@@ -185,8 +211,11 @@ install uninstall:
 	$(if $(ASKED),$(if $(filter $(ASKED),$(shell cat build/cpu 2> /dev/null)),,$(error build/ isn't built for $(ASKED): run make CPU=$(ASKED) first)))
 	@PREFIX='$(PREFIX)' LIBDIR='$(LIBDIR)' INCLUDEDIR='$(INCLUDEDIR)' DESTDIR='$(DESTDIR)' RELOCATABLE='$(RELOCATABLE)' c/install $@
 
-release: cross all
-	@release/pack
+release: ready cross all
+	@release/pack release
+
+ready:
+	@release/ready
 
 pack:
 	@release/pack
@@ -201,4 +230,4 @@ FORCE:
 
 .DELETE_ON_ERROR:
 .NOTPARALLEL:
-.PHONY: all aarch64 tools cross cxx check check-aarch64 install uninstall release pack doc clean FORCE
+.PHONY: all aarch64 tools cross cxx check check-aarch64 install uninstall release ready pack doc clean FORCE

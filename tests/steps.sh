@@ -34,14 +34,28 @@ has() { # a command
     command -v "$1" > /dev/null
 }
 
-left_out() { # what, and the command that is missing
-    omitted=$((omitted + 1))
-    echo "$1: left out, $2 is not installed (tools/setup installs it)"
+# Leaves a check out because something is missing. With CI=true that is a failure: a machine that checks for others has all of it.
+left_out() { # what, what is missing, and what to do if tools/setup doesn't install it
+    local why="$2 is missing (${3:-tools/setup installs it})"
+    if [ "${CI:-}" = true ]; then
+        count 1 "$1" "$why, and CI=true leaves nothing out"
+    else
+        omitted=$((omitted + 1))
+        echo "$1: left out, $why"
+    fi
 }
 
-# Succeeds if a command writes a certain output.
-gives() { # the output, with the escapes of printf %b; then the command
-    diff <(printf %b "$1") <("${@:2}")
+# Succeeds if a command ends with status 0 and writes a certain output.
+gives() { # the output, with the escapes of printf %b; then the command, whose status has to be 0
+    gives_with 0 "$@"
+}
+
+# Succeeds if a command ends with a certain status and writes a certain output.
+gives_with() { # the status, the output as for gives, the command
+    local status=0 output=$work/output.$BASHPID
+    ("${@:3}") > "$output" || status=$?
+    [ "$status" = "$1" ] || echo "status $status, and not $1"
+    printf %b "$2" | diff - "$output" && [ "$status" = "$1" ]
 }
 
 # Prints the sum as the last line, and exits. To have checked nothing is a failure, unless all of it was left out by name.

@@ -419,7 +419,7 @@ static void repair_by_blocks(void)
 
 static void version(void)
 {
-    CHECK(encoding_text_version() == ENCODING_TEXT_VERSION && ENCODING_TEXT_VERSION == 100);
+    CHECK(encoding_text_version() == ENCODING_TEXT_VERSION && ENCODING_TEXT_VERSION == 101);
     encoding_text_layout_0_1();
 }
 

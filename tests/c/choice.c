@@ -6,9 +6,11 @@
 #include <pthread.h>
 #include <stdio.h>
 
-/* The greatest leaf that a processor has, and leaf 7 of one for which a leaf that it doesn't have is all ones. */
-static unsigned greatest_leaf = 7;
-#define __get_cpuid_max(leaf, signature) ((leaf) == 0 ? greatest_leaf : 0x80000001u)
+/* The greatest leaf that a processor has, how often it was asked for that, and leaf 7 of one for which a leaf that it doesn't
+ * have is all ones. */
+static unsigned greatest_leaf = 7, queries;
+#define __get_cpuid_max(leaf, signature) \
+    (__atomic_add_fetch(&queries, 1, __ATOMIC_RELAXED) != 0 && (leaf) == 0 ? greatest_leaf : 0x80000001u)
 #undef __cpuid_count
 #define __cpuid_count(leaf, subleaf, a, b, c, d) ((a) = (b) = (c) = (d) = ~0u)
 
@@ -131,7 +133,9 @@ int main(void)
     threads();
     processors();
     settings();
+    const unsigned before = queries;
     count(takes_v3() == takes_v3(), "the same choice at each call");
+    count(before > 0 && queries == before, "the processor isn't queried for a later choice");
     count(ask_processor().leaf_7 == ~0u, "leaf 7");
     greatest_leaf = 6;
     count(ask_processor().leaf_7 == 0, "a processor without leaf 7 isn't asked for it");

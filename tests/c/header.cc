@@ -544,7 +544,28 @@ static void places()
     decoder.reset();
     decoder.decode("\xFF", text, false, [&](const encoding_text::malformation &one) { offset = one.offset; });
     CHECK(offset == 0);
+    // after the last call a stream begins, whichever call that is
+    std::u16string units;
+    decoder.decode("abc\xFF", text, true);
+    decoder.decode("d\xFF", text, true, [&](const encoding_text::malformation &one) { offset = one.offset; });
+    CHECK(offset == 1);
+    decoder.decode("ef\xFF", units, true, [&](const encoding_text::malformation &one) { offset = one.offset; });
+    CHECK(offset == 2);
+    decoder.decode("ab", units, true);
+    decoder.decode("g\xE2\x98", units, false, [&](const encoding_text::malformation &) { offset = 9; });
+    decoder.decode("", units, true, [&](const encoding_text::malformation &one) { offset = one.offset; });
+    CHECK(offset == 1);
 }
+
+#ifdef __cpp_char8_t
+// A literal of char8_t, as any other one, up to its NUL.
+static void literals_of_char8_t()
+{
+    CHECK(encoding_text::is_utf8(u8"\u00E9") && encoding_text::utf8_count(u8"\u00E9\u4F60") == 2 && bytes(u8"\u00E9").size() == 2);
+    CHECK(encoding_text::convert_utf8_to_utf16(u8"na\u00EFve \U0001F600") == u"na\u00EFve \U0001F600");
+    CHECK(encoding_text::repair(u8"\u00E9\u4F60").text == "\xC3\xA9\xE4\xBD\xA0" && bytes(u8"").size() == 0);
+}
+#endif
 
 static void decoder()
 {
@@ -561,6 +582,9 @@ static void decoder()
         CHECK(decodes(times(5003, text.bytes + "."), 10007, many, 5003 * text.malformed.size()));
     }
     places();
+#ifdef __cpp_char8_t
+    literals_of_char8_t();
+#endif
     utf8_decoder pending;
     std::string text;
     CHECK(pending.decode("\xE2\x98", text, false) == 0 && text.empty() && !pending.in_neutral_state());

@@ -91,6 +91,48 @@ static bool fills(const String &wanted, const String &replacement, const row &ro
     return false;
 }
 
+// Malformed sequences: the offset of each from the start of the stream, and its length.
+using places = std::vector<std::array<std::size_t, 2>>;
+
+static auto added_to(places &found)
+{
+    return [&found](const encoding_text::malformed_sequence &one) { found.push_back({one.offset, one.length}); };
+}
+
+// Where the malformed sequences of this row are, by their lengths and the code units that are unpaired surrogates.
+static places places_of(const row &row)
+{
+    places all;
+    for (std::size_t i = 0; i < row.units.size(); i++) {
+        const bool is_high = row.units[i] >= 0xD800 && row.units[i] <= 0xDBFF, is_low = row.units[i] >= 0xDC00 && row.units[i] <= 0xDFFF;
+        if (is_high && i + 1 < row.units.size() && row.units[i + 1] >= 0xDC00 && row.units[i + 1] <= 0xDFFF) {
+            i++;
+        } else if (is_high || is_low) {
+            all.push_back({2 * i, row.malformed[all.size()]});
+        }
+    }
+    if (all.size() < row.malformed.size()) {
+        all.push_back({2 * row.units.size(), 1});
+    }
+    return all;
+}
+
+// Decodes bytes in two pieces twice, and compares the places of both streams.
+template <class Decoder, class String>
+static bool finds(Decoder decoder, const places &wanted, const std::string &source, std::size_t cut, const String &text)
+{
+    for (int stream = 0; stream < 2; stream++) {
+        places found;
+        String written = text;
+        std::size_t count = decoder.decode(std::string_view(source).substr(0, cut), written, false, added_to(found));
+        count += decoder.decode(std::string_view(source).substr(cut), written, true, added_to(found));
+        if (found != wanted || count != wanted.size()) {
+            return false;
+        }
+    }
+    return true;
+}
+
 void utf16_decoders()
 {
     for (const row &row : ROWS) {
@@ -98,6 +140,8 @@ void utf16_decoders()
             const std::string source = utf16_bytes(row.units, big_endian) + row.odd;
             for (std::size_t cut = 0; cut <= source.size(); cut++) {
                 CHECK(appends(row, source, cut, big_endian));
+                CHECK(finds(utf16_decoder(big_endian), places_of(row), source, cut, "before "s));
+                CHECK(finds(utf16_decoder(big_endian), places_of(row), source, cut, u"before "s));
                 CHECK((fills<std::array<char, 4>>(row.utf8, U8("\uFFFD"), row, source, cut, big_endian)));
                 CHECK((fills<std::array<char16_t, 2>>(row.utf16, u"\uFFFD"s, row, source, cut, big_endian)));
             }
@@ -205,6 +249,71 @@ static void reports_of_marked_streams()
     CHECK(encoding_text::for_bom("\xEF\xBB\xBF")->length == 3 && !encoding_text::for_bom("a"));
 }
 
+// Streams with marks, and where their malformed sequences are: a mark counts as bytes of the stream.
+static void places_in_marked_streams()
+{
+    const struct {
+        std::string bytes;
+        places wanted;
+    } rows[] = {
+        {"\xEF\xBB\xBF" "a\xFF\xE2\x98z\xF0\x9F", {{4, 1}, {5, 2}, {8, 2}}},
+        {"\xFF\xFE" "a\0\x3D\xD8" "b\0\xA9\xDC" "c"s, {{4, 2}, {8, 2}, {10, 1}}},
+        {"\xFE\xFF\0a\xD8\x3D\0b\xD8\x3D\0"s, {{4, 2}, {8, 3}}},
+        {"\xEF\xBB", {{0, 2}}},
+        {"\xFE", {{0, 1}}},
+        {"text", {}},
+    };
+    for (const auto &row : rows) {
+        for (std::size_t cut = 0; cut <= row.bytes.size(); cut++) {
+            for (int stream = 0; stream < 2; stream++) {
+                encoding_text::decoder decoder(encoding::utf_8);
+                places found;
+                std::string text;
+                std::u16string units;
+                const std::string_view first = std::string_view(row.bytes).substr(0, cut), second = std::string_view(row.bytes).substr(cut);
+                std::size_t count = stream == 0 ? decoder.decode(first, text, false, added_to(found)) : decoder.decode(first, units, false, added_to(found));
+                count += stream == 0 ? decoder.decode(second, text, true, added_to(found)) : decoder.decode(second, units, true, added_to(found));
+                CHECK(found == row.wanted && count == row.wanted.size());
+                encoding_text::decoder plain(encoding::utf_8);
+                std::string same;
+                plain.decode(row.bytes, same, true);
+                CHECK(stream == 0 ? text == same : encoding_text::convert_utf16_to_utf8(units) == same);
+            }
+        }
+    }
+    // calls of each kind count their bytes, and the last one begins a stream
+    encoding_text::decoder decoder(encoding::utf_16le, bom_handling::off);
+    utf16_decoder other(false);
+    std::string text;
+    std::array<char, 8> room;
+    places found;
+    CHECK(decoder.decode("a\0b\0"sv, room, false).read == 4 && decoder.decode_without_replacement("c\0"sv, room, false).read == 2);
+    CHECK(decoder.decode("d\0\xA9\xDC"sv, text, false, added_to(found)) == 1 && found == places({{8, 2}}));
+    CHECK(decoder.decode("e\0"sv, text, true) == 0 && decoder.decode("f\0\xA9\xDC"sv, text, false, added_to(found)) == 1);
+    CHECK(found == places({{8, 2}, {2, 2}}) && decoder.decode("g\0"sv, room, true).read == 2);
+    CHECK(decoder.decode("\xA9\xDC"sv, text, false, added_to(found)) == 1 && found.back() == places({{0, 2}})[0]);
+    decoder.reset();
+    CHECK(decoder.decode("\xA9\xDC"sv, text, false, added_to(found)) == 1 && found.back() == places({{0, 2}})[0]);
+    CHECK(other.decode_without_replacement("a\0b\0"sv, room, false).read == 4 && other.decode("c\0\xA9\xDC"sv, text, false, added_to(found)) == 1);
+    CHECK(found.back() == places({{6, 2}})[0]);
+    other.reset();
+    CHECK(other.decode("\xA9\xDC"sv, text, true, added_to(found)) == 1 && found.back() == places({{0, 2}})[0]);
+}
+
+// Characters of pending bytes may take the space of those that follow.
+static void pending_bytes_take_space()
+{
+    std::array<char, 4> octets;
+    std::array<char16_t, 2> units;
+    encoding_text::decoder decoder(encoding::utf_16le), reporting(encoding::utf_16le);
+    CHECK(decoder.decode("\xEF\xBB"sv, octets, false).written == 0);
+    const auto done = decoder.decode("\xAC\x20"sv, octets, false);
+    CHECK(done.read == 0 && done.written == 3 && done.replaced == 0 && done.result == decoder_result::output_full);
+    CHECK(reporting.decode_without_replacement("\xEF\xBB"sv, units, false).written == 0);
+    const auto reported = reporting.decode_without_replacement("\x3D\xD8\xA9\xDC"sv, units, false);
+    CHECK(reported.read == 0 && reported.written == 1 && reported.result == decoder_result::output_full && units[0] == 0xBBEF);
+}
+
 void marked_decoders()
 {
     for (const marked_row &row : MARKED) {
@@ -216,6 +325,8 @@ void marked_decoders()
         }
     }
     reports_of_marked_streams();
+    places_in_marked_streams();
+    pending_bytes_take_space();
     std::string text, wanted;
     encoding_text::decoder decoder(encoding::utf_8);
     decoder.decode("\xFE\xFF"sv, text, false);

@@ -13,9 +13,16 @@ symbols() {
     "${tools}nm" -D --defined-only "${shared:?}" | awk '$2 != "A" {print $NF}' | LC_ALL=C sort
 }
 
-# Succeeds if the shared library exports exactly what the header declares, at the node of this version.
+# Prints what c/symbols.txt lists, in the same form.
+listed() {
+    cut -d ' ' -f 1 c/symbols.txt | LC_ALL=C sort
+}
+
+# Succeeds if the shared library exports exactly what the header declares. A function that c/symbols.txt doesn't list yet is at
+# the version node of this version.
 shared_exports() {
-    sed "s/\$/@@${NODE:?}/" build/names | diff - <(symbols)
+    symbols > "${work:?}/symbols" && sed 's/@@.*//' "$work/symbols" | diff build/names - && listed > "$work/listed" &&
+        LC_ALL=C comm -13 "$work/listed" "$work/symbols" > "$work/new" && ! grep -v "@@ENCODING_TEXT_${VERSION:?}\$" "$work/new"
 }
 
 # Succeeds if the shared library wants no executable stack, and all its symbols are bound when it is loaded.
@@ -23,9 +30,10 @@ is_hardened() {
     "${tools}readelf" -lW "$shared" | grep -E '^ *GNU_STACK .* RW +0x' && "${tools}readelf" -dW "$shared" | grep -E 'FLAGS_1.* NOW'
 }
 
-# Succeeds if the shared library has each symbol of the last release of this series.
+# Succeeds if the shared library has each symbol of each release of this series, at the version node that it had then.
 keeps_symbols() {
-    grep -c "@@$NODE\$" c/symbols.txt && ! grep "@@$NODE\$" c/symbols.txt | LC_ALL=C comm -23 - <(symbols) | grep .
+    symbols > "$work/symbols" && listed > "$work/listed" && LC_ALL=C comm -23 "$work/listed" "$work/symbols" > "$work/gone" &&
+        ! grep . "$work/gone" && grep -c . "$work/listed"
 }
 
 # Succeeds if one call costs a static program less than 40 KB: the builds of one function, and no other.

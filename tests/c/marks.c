@@ -182,6 +182,26 @@ static void spaces_and_reports(void)
         ENCODING_TEXT_OUTPUT_FULL, 0, 0));
 }
 
+/* The characters of pending bytes may take the space, and then nothing of the source is read. */
+static void pending_bytes_take_space(void)
+{
+    const uint8_t euro[] = {0xAC, 0x20};
+    const uint8_t cat[] = {0x3D, 0xD8, 0xA9, 0xDC};
+    encoding_text_decoder decoder = stream_decoder_with("\xEF\xBB", 2, ENCODING_TEXT_UTF_16LE, ENCODING_TEXT_BOM_SNIFF);
+
+    CHECK(coded_is(encoding_text_decoder_decode_to_utf8(&decoder, ALL(euro), fresh_bytes(), 4, false), 0, 3, 0,
+                   ENCODING_TEXT_OUTPUT_FULL));
+    CHECK(bytes_are(BYTES("\xEB\xAF\xAF")));
+    CHECK(coded_is(encoding_text_decoder_decode_to_utf8(&decoder, ALL(euro), fresh_bytes(), 3, false), 2, 3, 0,
+                   ENCODING_TEXT_INPUT_EMPTY));
+    CHECK(bytes_are(BYTES("\xE2\x82\xAC")));
+    decoder = stream_decoder_with("\xEF\xBB", 2, ENCODING_TEXT_UTF_16LE, ENCODING_TEXT_BOM_SNIFF);
+    CHECK(utf16_decoded_is(
+        encoding_text_decoder_decode_to_utf16_without_replacement(&decoder, ALL(cat), fresh_units(), 2, false), 0, 1,
+        ENCODING_TEXT_OUTPUT_FULL, 0, 0));
+    CHECK(units_are(1, 0xBBEF));
+}
+
 void stream_decoders(void)
 {
     byte_order_marks();
@@ -189,6 +209,7 @@ void stream_decoders(void)
     lengths_of_streams();
     marks_decide();
     spaces_and_reports();
+    pending_bytes_take_space();
 }
 
 void stream_calls_of_no_elements(const uint8_t *bytes, uint8_t *to_bytes, uint16_t *to_units)

@@ -1,5 +1,5 @@
 /*
- * The calls from UTF-16 that count the unpaired surrogates they replace: rows of encoding_vectors' counted_rows. C99 and
+ * The calls from UTF-16 that count the unpaired surrogates they replace: rows of text_vectors' counted_rows. C99 and
  * C++17.
  */
 #include "calls.h"
