@@ -1,7 +1,8 @@
 """Prints Markdown tables from the output of several runs of the benchmark's `simdutf`; the best throughput counts:
 python3 beside.py PEER MACHINE ROUNDS PASSES V2.tsv... -- V3.tsv... [--write], ours built for x86-64-v2 and for
 x86-64-v3. A cell has the ratios of both to the kernel of the same width, bold if one is below the goal. The row under it
-has the ratio of ours for x86-64-v3 to simdutf's own choice. Standard error lists the cells below the goal."""
+has the ratio of ours for x86-64-v3 to simdutf's own choice. Standard error lists the cells below the goal. The last table
+sums up each length, and with --write it goes to docs/PERFORMANCE.md."""
 import sys
 import textwrap
 
@@ -44,11 +45,16 @@ def method(files):
         yield f"nine in ten within {most2} and {most3}."
 
 
-def quantiles(best, size):
-    """Returns how the ratios to simdutf's choice are distributed."""
-    ratios = sorted(ours / own for (_, _, other), (ours, _, own) in best.items() if other == size)
-    tenth, half, most = (f"{ratios[len(ratios) * share // 10]:.2f}" for share in (1, 5, 9))
-    yield f"Ratios to simdutf's choice: a tenth of them is below {tenth}, half below {half}, a tenth above {most}."
+def summary(widths):
+    """Returns the lines of the table of all lengths: how many cells are below the goal, and the ratios to simdutf's choice."""
+    yield "| Length | Cells | Below the goal, v2 and v3 | Below simdutf's choice | A tenth, half and nine tenths of these ratios are below |"
+    yield "|---|---|---|---|---|"
+    for size, name in SIZES.items():
+        places = [place for place in widths[0] if place[2] == size]
+        below = [sum(round(best[place][0] / best[place][1], 2) < GOALS[size] for place in places) for best in widths]
+        own = sorted(widths[1][place][0] / widths[1][place][2] for place in places)
+        shares = ", ".join(f"{own[len(own) * share // 10]:.2f}" for share in (1, 5, 9))
+        yield f"| {name} | {len(places)} | {below[0]}, {below[1]} | {sum(ratio < 1 for ratio in own)} | {shares} |"
 
 
 def cell(widths, place):
@@ -74,8 +80,6 @@ def table(widths, size):
         name, *rest = row.split(",")
         yield f"| `{name}`{','.join(['', *rest])} | {' | '.join(words for words, _ in cells)} |"
         yield f"| – simdutf's choice | {' | '.join(own for _, own in cells)} |"
-    yield ""
-    yield from quantiles(widths[1], size)
 
 
 def main():
@@ -83,8 +87,8 @@ def main():
     cut = names.index("--")
     files = names[5:cut], names[cut + 1:]
     widths = [best_of(names) for names in files]
-    lines = [textwrap.fill(" ".join(method(files)), 120), *(line for size in SIZES for line in table(widths, size))]
-    page.put("bench/beside", "\n".join(lines) + "\n")
+    print(*(line for size in SIZES for line in table(widths, size)), sep="\n", end="\n\n")
+    page.put("bench/beside", "\n".join([textwrap.fill(" ".join(method(files)), 120), "", *summary(widths)]) + "\n")
 
 
 main()

@@ -20,11 +20,11 @@ def put(name, text):
 
 def name(commit):
     """Prints the first line of the page, which names the commit that bench/table measured, or writes it."""
-    line = f"The plots and the table of 1 MiB are of commit {commit}. Other figures may be older.\n"
+    line = f"The plot and the table of 1 MiB are of commit {commit}. Other figures may be older.\n"
     if "--write" not in sys.argv:
         print(line, end="")
         return
     first, rest = PAGE.read_text().split("\n", 1)
-    if not first.startswith("The plots "):
+    if not first.startswith("The plot "):
         sys.exit(f"the first line of {PAGE} names no commit")
     PAGE.write_text(line + rest)

@@ -2,9 +2,12 @@
 
 use crate::kinds::{source, Kind, Source, KINDS};
 use crate::measure::room;
-use crate::rows::{self, Engine, Row};
+use crate::rows;
+use crate::utf16_streams;
+use crate::worst;
 use std::arch::asm;
 use std::ffi::CString;
+use std::slice::from_ref;
 
 /// What callgrind is asked for, by the numbers of its client requests.
 #[derive(Clone, Copy)]
@@ -44,22 +47,47 @@ pub fn count(size: usize, names: &[&str]) {
                 let length: usize = sources.iter().map(|source| row.length(source)).sum();
                 for engine in row.engines.iter().filter(|engine| !rows::is_own(engine)) {
                     let label = format!("{}|{}|{}|{length}", row.name, kind.name(), engine.0);
-                    dump(row, engine, sources, &label);
+                    let mut room = room(sources);
+                    dump(label, &mut || (engine.1)(sources, &mut room, sources.len() as u64));
                 }
             }
         }
     }
+    utf16_streams::each(size, |row, text, engine, length, run| {
+        if names.is_empty() || names.contains(&row) {
+            dump(format!("{row}|{text}|{engine}|{length}"), run);
+        }
+    });
     request(Request::StopInstrumentation, 0);
 }
 
-/// Dumps the instructions of one run on each of the sources.
-fn dump(row: &Row, engine: &Engine, sources: &[Source], label: &str) {
-    let times = sources.len() as u64;
-    let mut room = room(sources);
+/// Runs ours, in each row that is named or in all, once on plain text and on each pattern, between requests.
+pub fn worst(size: usize, names: &[&str]) {
+    let sources = worst::sources(size);
+    request(Request::StartInstrumentation, 0);
+    for row in rows::all().filter(|row| names.is_empty() || names.contains(&row.name)) {
+        for (name, source) in sources.iter().filter(|(_, source)| row.is_measured(source)) {
+            let mut room = room(from_ref(source));
+            let label = format!("{}|{name}|{}|{}", row.name, row.engines[0].0, row.length(source));
+            dump(label, &mut || (row.engines[0].1)(from_ref(source), &mut room, 1));
+        }
+    }
+    for (name, source) in &sources {
+        utf16_streams::of(&source.units, |row, run| {
+            if names.is_empty() || names.contains(&row) {
+                dump(format!("{row}|{name}|ours|{}", 2 * source.units.len()), run);
+            }
+        });
+    }
+    request(Request::StopInstrumentation, 0);
+}
+
+/// Dumps the instructions of one run.
+fn dump(label: String, run: &mut dyn FnMut()) {
     // once before, so that symbols are found and pages are mapped
-    (engine.1)(sources, &mut room, times);
-    let label = CString::new(label).unwrap_or_else(|_| panic!("{} has a NUL", row.name));
+    run();
+    let label = CString::new(label).expect("no row has a NUL in its name");
     request(Request::ZeroStats, 0);
-    (engine.1)(sources, &mut room, times);
+    run();
     request(Request::DumpStatsAt, label.as_ptr() as usize);
 }

@@ -44,6 +44,22 @@ pub struct DecodeResult {
 }
 
 #[repr(C)]
+pub struct Utf16Decoder {
+    pending: [u8; 3],
+    count: u8,
+    big_endian: u8,
+}
+
+#[repr(C)]
+pub struct Utf16DecodeResult {
+    pub read: usize,
+    pub written: usize,
+    pub result: u8,
+    pub malformed_length: u8,
+    pub read_after: u8,
+}
+
+#[repr(C)]
 #[derive(Default)]
 pub struct Encoder {
     surrogate: u16,
@@ -148,6 +164,12 @@ extern "C" {
     fn encoding_text_utf8_decoder_decode_to_utf8(
         decoder: &mut Decoder, src: *const u8, src_length: usize, dst: *mut u8, dst_length: usize, last: bool,
     ) -> DecodeResult;
+    fn encoding_text_utf16_decoder_decode_to_utf16(
+        decoder: &mut Utf16Decoder, src: *const u8, src_length: usize, dst: *mut u16, dst_length: usize, last: bool,
+    ) -> Utf16DecodeResult;
+    fn encoding_text_utf16_decoder_decode_to_utf8(
+        decoder: &mut Utf16Decoder, src: *const u8, src_length: usize, dst: *mut u8, dst_length: usize, last: bool,
+    ) -> Utf16DecodeResult;
     fn encoding_text_utf8_encoder_encode_from_utf16(
         encoder: &mut Encoder, src: *const u16, src_length: usize, dst: *mut u8, dst_length: usize, last: bool,
     ) -> EncodeResult;
@@ -170,6 +192,25 @@ impl Decoder {
     pub fn to_utf8(&mut self, src: &[u8], dst: &mut [u8], last: bool) -> DecodeResult {
         unsafe {
             encoding_text_utf8_decoder_decode_to_utf8(self, src.as_ptr(), src.len(), dst.as_mut_ptr(), dst.len(), last)
+        }
+    }
+}
+
+impl Utf16Decoder {
+    /// Returns what `encoding_text_utf16_decoder_new` stores.
+    pub fn new(big_endian: bool) -> Utf16Decoder {
+        Utf16Decoder { pending: [0; 3], count: 0, big_endian: big_endian.into() }
+    }
+
+    pub fn to_utf16(&mut self, src: &[u8], dst: &mut [u16], last: bool) -> Utf16DecodeResult {
+        unsafe {
+            encoding_text_utf16_decoder_decode_to_utf16(self, src.as_ptr(), src.len(), dst.as_mut_ptr(), dst.len(), last)
+        }
+    }
+
+    pub fn to_utf8(&mut self, src: &[u8], dst: &mut [u8], last: bool) -> Utf16DecodeResult {
+        unsafe {
+            encoding_text_utf16_decoder_decode_to_utf8(self, src.as_ptr(), src.len(), dst.as_mut_ptr(), dst.len(), last)
         }
     }
 }

@@ -9,7 +9,9 @@
 //!   run.
 //! - `simdutf` measures only ours, simdutf's kernel of the same width, and simdutf's own choice, if simdutf has the
 //!   call, and prints their throughputs.
-//! - `count SIZE [ROW..]` runs each engine once on a text of about SIZE bytes. Under callgrind, each run is a dump.
+//! - `count SIZE [ROW..]` runs each engine once on a text of about SIZE bytes. Under callgrind, each run is a dump. It also has
+//!   streams of UTF-16, plain and damaged (module `utf16_streams`).
+//! - `worst SIZE [ROW..]` runs ours once on plain text and on each of 200 patterns of SIZE bytes, each a dump under callgrind.
 //! - `calls` compares the Rust crate with C on each row that is one call, and prints what one costs on sixteen letters
 //!   in both; the status is 1 if Rust takes 2 ns more. It needs no simdutf, so the program has it too.
 //! - `fuzz COUNT [SEED]` compares whole outputs on COUNT random and damaged texts.
@@ -36,6 +38,8 @@ mod rust;
 mod simdutf;
 mod streams;
 mod texts;
+mod utf16_streams;
+mod worst;
 
 use std::ffi::{c_int, c_void};
 use std::io::Write;
@@ -61,6 +65,7 @@ pub fn run(arguments: Vec<String>) {
         [] => measure::table(),
         ["simdutf"] => measure::beside_simdutf(),
         ["count", size, rows @ ..] => count::count(number(size) as usize, rows),
+        ["worst", size, rows @ ..] => count::worst(number(size) as usize, rows),
         #[cfg(feature = "rust")]
         ["calls"] => rust::calls(),
         ["fuzz", count] => fuzz::fuzz(number(count), 1),
@@ -85,6 +90,6 @@ fn number(argument: &str) -> u64 {
 }
 
 fn usage() -> ! {
-    eprintln!("usage: [simdutf | calls | count SIZE [ROW..] | fuzz COUNT [SEED]]");
+    eprintln!("usage: [simdutf | calls | count SIZE [ROW..] | worst SIZE [ROW..] | fuzz COUNT [SEED]]");
     end(2)
 }
