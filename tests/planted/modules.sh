@@ -7,7 +7,7 @@ module() { # its name, its lines
 few() {
     rm -rf "$room"
     mkdir -p "$room/tools"
-    cp tools/modules "$room/tools"
+    cp tools/modules tools/imports.py "$room/tools"
     module lib 'mod one;' 'mod two;' 'mod three;' '' 'fn unused() -> bool {' '    false' '}'
     module one 'use crate::two::second;' '' 'pub fn first() -> bool {' '    !second()' '}'
     module two 'use crate::three::{third};' '' 'pub fn second() -> bool {' '    !third() && helper(1)' '}' '' \

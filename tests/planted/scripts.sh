@@ -5,12 +5,13 @@
 few_scripts() {
     few
     mkdir -p "$room/tests" "$room/crates/a/must-fail"
-    cp tools/{lint,edit_counts} "$room/tools"
+    cp tools/{lint,edit_counts,limits,rattle.py} "$room/tools"
     cp tests/steps.sh "$room/tests"
     cp .shellcheckrc "$room"
     touch "$room/page.md"
     echo 'file: src/lib.rt' | tee "$room/crates/a/must-fail"/{one,two}.edit > /dev/null
     echo 'a 2' > "$room/tests/edits.txt"
+    echo '0 columns src 120' > "$room/tests/limits.txt"
 }
 rows_of_lint() {
     mkdir -p "$room"/{tools,tests}
