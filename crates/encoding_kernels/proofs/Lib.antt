@@ -8,6 +8,7 @@ pub mod CopyLemmas
 pub mod CountLemmas
 pub mod GroupLemmas
 pub mod JoinedLemmas
+pub mod KnownLengthLemmas
 pub mod Latin1FromUtf8Lemmas
 pub mod Latin1ToUtf8Lemmas
 pub mod LengthLemmas

@@ -2,6 +2,7 @@ pub mod Counts
 pub mod EndingUnits
 pub mod Following
 pub mod KeptBytes
+pub mod KnownLengths
 pub mod Lengths
 pub mod Neighbors
 pub mod RepairedLengths

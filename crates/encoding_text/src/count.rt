@@ -1,12 +1,14 @@
 //! Exact counts, of any source: its characters, and the bytes of its repaired text. Each call writes nothing.
 
 ghost use Rattle.std.specs.Prelude.{◌≡◌, ◌≤◌, List, length, encode_utf8, IfSome, SomeIff};
+ghost use Rattle.std.specs.Str.{chars};
 ghost use Rattle.encoding_definitions.specs.Parts.{Part, ArePartsOf, lossy_utf8};
 ghost use Rattle.encoding_definitions.specs.Utf16.{Part16, ArePartsOf16};
 ghost use Rattle.encoding_text.specs.Replacing.{SufficesForParts};
 
 use crate::utf_8::utf8_valid_up_to;
 use encoding_kernels::utf8::count::parts_of_utf8;
+use encoding_kernels::utf8::known::characters_of_text;
 use encoding_kernels::utf8::repaired::repaired_length;
 use encoding_kernels::utf16::count::parts_of_units;
 
@@ -19,6 +21,14 @@ pub fn utf8_count(src: &[u8]) -> usize
     ensures { (parts : List Part) × ArePartsOf src.now parts × (result ≡ length parts) }
 {
     parts_of_utf8(src)
+}
+
+/// Returns the number of characters of a text: what `src.chars().count()` returns. It looks at each byte by itself, so it
+/// takes less time than `utf8_count`.
+pub fn str_count(src: &str) -> usize
+    ensures { result ≡ length (chars src.now) }
+{
+    characters_of_text(src.as_bytes())
 }
 
 /// Returns the number of characters in `src`, with one for each unpaired surrogate: how many items

@@ -2,6 +2,7 @@
 
 ghost use Rattle.std.specs.Prelude.{◌≡◌, ℕ, ◌≤◌, List, [], ◌∷◌, length, encode_utf8, encode_utf8_all};
 ghost use Rattle.std.specs.Char.Escape.{encode_utf16};
+ghost use Rattle.std.specs.List.{flat_map};
 ghost use Rattle.std.specs.Str.{chars};
 ghost use Rattle.encoding_definitions.specs.Latin1.{IsUtf8Latin1};
 ghost use Rattle.encoding_definitions.specs.Parts.{Part, ArePartsOf, lossy_utf16};
@@ -10,6 +11,7 @@ ghost use Rattle.encoding_definitions.specs.Utf16.{IsUtf8OfLongestPrefix, IsUtf8
 ghost use Rattle.encoding_text.specs.Replacing.{SufficesForParts};
 
 use encoding_kernels::latin1::length::{latin1_length_of_utf8, utf8_length_of_latin1};
+use encoding_kernels::utf8::known::utf16_length_of_text;
 use encoding_kernels::utf8::length::utf16_length_of_utf8;
 use encoding_kernels::utf16::length::utf8_length_of_units;
 
@@ -23,6 +25,14 @@ pub fn utf16_length_from_utf8(src: &[u8]) -> usize
     ensures suffices { SufficesForParts encode_utf16 src.now result }
 {
     utf16_length_of_utf8(src)
+}
+
+/// Returns the length of a text in UTF-16 code units: what `convert_str_to_utf16` writes, and `src.encode_utf16().count()`.
+/// It looks at each byte by itself, so it takes less time than `utf16_length_from_utf8`.
+pub fn utf16_length_from_str(src: &str) -> usize
+    ensures { result ≡ length (flat_map encode_utf16 (chars src.now)) }
+{
+    utf16_length_of_text(src.as_bytes())
 }
 
 /// Returns the length of the code units in bytes of UTF-8, with U+FFFD for each unpaired surrogate: what
