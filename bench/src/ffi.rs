@@ -127,6 +127,9 @@ calls! {
     encoding_text_mem_utf8_length_from_latin1(u8) -> usize;
     encoding_text_mem_latin1_length_from_utf8(u8) -> usize;
     encoding_text_mem_utf16_length_from_utf8(u8) -> usize;
+    encoding_text_mem_latin1_length_from_utf8_unchecked(u8) -> usize;
+    encoding_text_mem_utf16_length_from_utf8_unchecked(u8) -> usize;
+    encoding_text_utf8_count_unchecked(u8) -> usize;
     encoding_text_mem_utf8_length_from_utf16(u16) -> usize;
     encoding_text_utf8_count(u8) -> usize;
     encoding_text_utf16_count(u16) -> usize;

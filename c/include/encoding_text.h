@@ -353,6 +353,21 @@ uint8_t encoding_text_mem_check_str_for_latin1_and_bidi_unchecked(const uint8_t 
 size_t encoding_text_mem_convert_str_to_utf16_unchecked(const uint8_t *src, size_t src_length, uint16_t *dst,
                                                         size_t dst_length);
 
+/** Takes less time than the function without `_unchecked`. If src isn't a Latin1 text, the behaviour is undefined.
+ * @param src,src_length the source, in bytes.
+ * @return the number of characters of the text, which is its length in Latin1 */
+size_t encoding_text_mem_latin1_length_from_utf8_unchecked(const uint8_t *src, size_t src_length);
+
+/** Takes less time than the function without `_unchecked`. If src is ill-formed, the behaviour is undefined.
+ * @param src,src_length the source, in bytes.
+ * @return the length of the text in UTF-16 code units */
+size_t encoding_text_mem_utf16_length_from_utf8_unchecked(const uint8_t *src, size_t src_length);
+
+/** Takes less time than the function without `_unchecked`. If src is ill-formed, the behaviour is undefined.
+ * @param src,src_length the source, in bytes.
+ * @return the number of characters of the text */
+size_t encoding_text_utf8_count_unchecked(const uint8_t *src, size_t src_length);
+
 /** @} */
 
 /** @name Whole buffers: lengths

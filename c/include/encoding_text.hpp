@@ -260,6 +260,30 @@ inline std::size_t utf8_count(bytes text) noexcept
     return encoding_text_utf8_count(text.data(), text.size());
 }
 
+/** Takes less time than `utf8_count`. If the text is ill-formed, the behaviour is undefined.
+ * @param text a text.
+ * @return the number of its characters */
+inline std::size_t utf8_count_unchecked(bytes text) noexcept
+{
+    return encoding_text_utf8_count_unchecked(text.data(), text.size());
+}
+
+/** If the text is ill-formed, the behaviour is undefined.
+ * @param text a text.
+ * @return its length in UTF-16 code units */
+inline std::size_t utf16_length_from_utf8_unchecked(bytes text) noexcept
+{
+    return encoding_text_mem_utf16_length_from_utf8_unchecked(text.data(), text.size());
+}
+
+/** If the text is ill-formed or has a character beyond U+00FF, the behaviour is undefined.
+ * @param text a Latin1 text.
+ * @return the number of its characters, which is its length in Latin1 */
+inline std::size_t latin1_length_from_utf8_unchecked(bytes text) noexcept
+{
+    return encoding_text_mem_latin1_length_from_utf8_unchecked(text.data(), text.size());
+}
+
 /** @param text the code units.
  * @return the number of their characters, with one for each unpaired surrogate */
 inline std::size_t utf16_count(code_units text) noexcept

@@ -350,6 +350,8 @@ functions! {
         encoding_text_mem_str_latin1_up_to_unchecked() -> usize;
         encoding_text_mem_is_str_bidi_unchecked() -> bool;
         encoding_text_mem_check_str_for_latin1_and_bidi_unchecked() -> u8;
+        encoding_text_mem_utf16_length_from_utf8_unchecked() -> usize;
+        encoding_text_utf8_count_unchecked() -> usize;
     }
     conversion {
         encoding_text_ascii_to_ascii(u8, u8) -> Prefix;

@@ -18,6 +18,34 @@ pub fn utf8_count(bytes: &[u8]) -> usize {
     c::encoding_text_utf8_count(bytes)
 }
 
+/// Returns the number of characters of a text: `text.chars().count()`.
+///
+/// [Proved](crate::promises#counts).
+///
+/// ```
+/// use encoding_text::str_count;
+/// assert_eq!(str_count("né"), 2);
+/// ```
+#[must_use]
+#[inline]
+pub fn str_count(text: &str) -> usize {
+    c::encoding_text_utf8_count_unchecked(text)
+}
+
+/// Returns the length of a text in UTF-16 code units: `text.encode_utf16().count()`.
+///
+/// [Proved](crate::promises#counts).
+///
+/// ```
+/// use encoding_text::utf16_length_from_str;
+/// assert_eq!(utf16_length_from_str("né\u{1F4A9}"), 4);
+/// ```
+#[must_use]
+#[inline]
+pub fn utf16_length_from_str(text: &str) -> usize {
+    c::encoding_text_mem_utf16_length_from_utf8_unchecked(text)
+}
+
 /// Returns the number of characters of `units`, with one for each unpaired surrogate:
 /// `char::decode_utf16(units).count()`.
 ///

@@ -8,7 +8,8 @@
 //! - [`Utf8Decoder`], [`Utf16Decoder`] and [`Utf8Encoder`]: streams in any pieces, into destinations of any length;
 //! - [`repair`], [`repair_to`], [`repair_slice_partial`], [`utf8_chunks`], [`next_malformed`] and [`next_malformation`]: bytes that may be
 //!   malformed UTF-8;
-//! - [`utf8_count`], [`utf16_count`] and [`repaired_utf8_length`]: exact counts, also of such bytes;
+//! - [`utf8_count`], [`utf16_count`] and [`repaired_utf8_length`]: exact counts, also of such bytes; [`str_count`] and
+//!   [`utf16_length_from_str`] of a text;
 //! - [`Repair`] and [`DecodeUtf16`]: the same over a reader.
 //!
 //! ```
@@ -81,7 +82,7 @@ pub mod utf_16;
 pub mod utf_8;
 
 pub use chunks::{next_malformation, next_malformed, utf8_chunks, Malformation, Utf8Chunk, Utf8Chunks};
-pub use count::{repaired_utf8_length, utf16_count, utf8_count};
+pub use count::{repaired_utf8_length, str_count, utf16_count, utf16_length_from_str, utf8_count};
 pub use decoder::{DecoderResult, Utf8Decoder};
 pub use encoding::{CoderResult, Decoder, Encoding, UTF_16BE, UTF_16LE, UTF_8};
 #[cfg(feature = "alloc")]

@@ -108,6 +108,7 @@
 //! | Calls | Proved | The crate's own |
 //! |---|---|---|
 //! | [`utf8_count`](crate::utf8_count), [`utf16_count`](crate::utf16_count) | all that is said | nothing |
+//! | [`str_count`](crate::str_count), [`utf16_length_from_str`](crate::utf16_length_from_str) | all that is said | nothing |
 //! | [`repaired_utf8_length`](crate::repaired_utf8_length) | the length, or `usize::MAX` if it is greater | an `Option` of it |
 //!
 //! # Malformed sequences

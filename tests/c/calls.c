@@ -111,6 +111,9 @@ static void known_texts(void)
           == ENCODING_TEXT_INVALID_ARGUMENT && no_units_written());
     CHECK(encoding_text_mem_convert_str_to_utf16_unchecked(ALL(latin1), fresh_units(), 3) == 2
           && units_are(2, 0x61, 0xE4));
+    CHECK(encoding_text_mem_latin1_length_from_utf8_unchecked(ALL(latin1)) == 2);
+    CHECK(encoding_text_mem_utf16_length_from_utf8_unchecked(ALL(beyond)) == 2);
+    CHECK(encoding_text_utf8_count_unchecked(ALL(hebrew)) == 2);
 }
 
 static void copies(void)
@@ -212,6 +215,8 @@ static void counts(void)
     CHECK(encoding_text_utf8_count(ALL(overlong)) == 9 && encoding_text_repaired_utf8_length(ALL(overlong)) == 25);
     CHECK(encoding_text_utf8_count(ALL(truncated)) == 5 && encoding_text_repaired_utf8_length(ALL(truncated)) == 13);
     CHECK(encoding_text_utf8_count(ALL(text)) == 3 && encoding_text_repaired_utf8_length(ALL(text)) == 7);
+    CHECK(encoding_text_utf8_count_unchecked(ALL(text)) == 3);
+    CHECK(encoding_text_mem_utf16_length_from_utf8_unchecked(ALL(text)) == 4);
     CHECK(encoding_text_utf16_count(ALL(units)) == 3);
 }
 

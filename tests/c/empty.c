@@ -25,6 +25,8 @@ static void checks_of_no_elements(const uint8_t *bytes, const uint16_t *units)
     CHECK(encoding_text_mem_check_utf16_for_latin1_and_bidi(units, 0) == ENCODING_TEXT_LATIN1);
     CHECK(encoding_text_mem_is_str_latin1_unchecked(bytes, 0) && !encoding_text_mem_is_str_bidi_unchecked(bytes, 0));
     CHECK(encoding_text_mem_str_latin1_up_to_unchecked(bytes, 0) == 0);
+    CHECK(encoding_text_mem_latin1_length_from_utf8_unchecked(bytes, 0) == 0);
+    CHECK(encoding_text_mem_utf16_length_from_utf8_unchecked(bytes, 0) == 0 && encoding_text_utf8_count_unchecked(bytes, 0) == 0);
     CHECK(encoding_text_mem_check_str_for_latin1_and_bidi_unchecked(bytes, 0) == ENCODING_TEXT_LATIN1);
 }
 

@@ -198,6 +198,11 @@ static void sound_text(const pair &text)
     const auto repaired = encoding_text::repair(text.utf8);
     CHECK(repaired.text == text.utf8 && repaired.replaced == 0 && is_exact(repaired.text));
     CHECK(encoding_text::utf8_count(text.utf8) == encoding_text::utf16_count(text.utf16));
+    CHECK(encoding_text::utf8_count_unchecked(text.utf8) == encoding_text::utf16_count(text.utf16));
+    CHECK(encoding_text::utf16_length_from_utf8_unchecked(text.utf8) == text.utf16.size());
+    if (const auto latin1 = encoding_text::convert_utf8_to_latin1(text.utf8)) {
+        CHECK(encoding_text::latin1_length_from_utf8_unchecked(text.utf8) == latin1->size());
+    }
     CHECK(encoding_text::repaired_utf8_length(text.utf8) == text.utf8.size());
     CHECK(encoding_text::next_malformed(text.utf8).length == 0);
     CHECK(encoding_text::next_malformed(text.utf8).offset == text.utf8.size());

@@ -280,6 +280,9 @@ static void results(void)
     CHECK(encoding_text_mem_latin1_length_from_utf8(bytes, LONG) == LONG);
     CHECK(encoding_text_utf8_valid_up_to(bytes, LONG) == LONG);
     CHECK(encoding_text_utf8_count(bytes, LONG) == LONG);
+    CHECK(encoding_text_mem_latin1_length_from_utf8_unchecked(bytes, LONG) == LONG);
+    CHECK(encoding_text_mem_utf16_length_from_utf8_unchecked(bytes, LONG) == LONG);
+    CHECK(encoding_text_utf8_count_unchecked(bytes, LONG) == LONG);
     CHECK(encoding_text_utf16_count(units, LONG) == LONG);
     CHECK(encoding_text_repaired_utf8_length(bytes, LONG) == LONG);
     CHECK(malformed_is(encoding_text_next_malformed(bytes, LONG), LONG, 0));

@@ -52,7 +52,7 @@ pub const ROWS: &[Row] = rows! {
         OURS => |s, r| r.reported[0] = ffi::encoding_text_mem_latin1_length_from_utf8(&s.latin1_text),
         CRATE => |s, r| r.reported[0] = one(crate_latin1_length, &s.latin1_text);
     "latin1_length_from_utf8, trusting", Latin1Text:
-        OURS => |s, r| r.reported[0] = ffi::encoding_text_mem_latin1_length_from_utf8(&s.latin1_text);
+        OURS => |s, r| r.reported[0] = ffi::encoding_text_mem_latin1_length_from_utf8_unchecked(&s.latin1_text);
         simdutf: PLAIN => |s, r| r.reported[0] = simdutf::latin1_length_from_utf8(&s.latin1_text);
     "utf16_length_from_utf8", Bytes:
         OURS => |s, r| r.reported[0] = ffi::encoding_text_mem_utf16_length_from_utf8(&s.bytes),
@@ -63,7 +63,11 @@ pub const ROWS: &[Row] = rows! {
             std_utf16_length(&s.bytes)
         };
     "utf16_length_from_utf8, trusting", Bytes:
-        OURS => |s, r| r.reported[0] = ffi::encoding_text_mem_utf16_length_from_utf8(&s.bytes);
+        OURS => |s, r| r.reported[0] = if s.well_formed {
+            ffi::encoding_text_mem_utf16_length_from_utf8_unchecked(&s.bytes)
+        } else {
+            ffi::encoding_text_mem_utf16_length_from_utf8(&s.bytes)
+        };
         simdutf: PLAIN => |s, r| r.reported[0] = if s.well_formed {
             simdutf::utf16_length_from_utf8(&s.bytes)
         } else {
@@ -96,7 +100,11 @@ pub const ROWS: &[Row] = rows! {
             std_count(&s.bytes)
         };
     "utf8_count, trusting", Bytes:
-        OURS => |s, r| r.reported[0] = ffi::encoding_text_utf8_count(&s.bytes);
+        OURS => |s, r| r.reported[0] = if s.well_formed {
+            ffi::encoding_text_utf8_count_unchecked(&s.bytes)
+        } else {
+            ffi::encoding_text_utf8_count(&s.bytes)
+        };
         simdutf: PLAIN => |s, r| r.reported[0] = if s.well_formed {
             simdutf::count_utf8(&s.bytes)
         } else {

@@ -11,6 +11,7 @@ ghost use Rattle.encoding_definitions.specs.Latin1.{IsUtf8Latin1};
 ghost use Rattle.encoding_c.specs.Status.{IsChoice};
 
 use crate::status::{BIDI, INVALID_ARGUMENT, LATIN1, LEFT_TO_RIGHT};
+use encoding_text::count;
 use encoding_text::mem::{self, Latin1Bidi};
 use std::str::from_utf8_unchecked;
 
@@ -52,6 +53,33 @@ pub extern "C" fn encoding_text_mem_check_str_for_latin1_and_bidi_unchecked(buff
         Latin1Bidi::LeftToRight => LEFT_TO_RIGHT,
         Latin1Bidi::Bidi => BIDI,
     }
+}
+
+/// Returns the number of characters of Latin1 text: how many bytes it has in Latin1.
+#[unsafe(no_mangle)]
+pub extern "C" fn encoding_text_mem_latin1_length_from_utf8_unchecked(src: &[u8]) -> usize
+    requires latin1 { IsUtf8Latin1 src.now }
+    ensures { result ≡ length (chars src.now) }
+{
+    mem::latin1_length_from_utf8(src)
+}
+
+/// Returns the length of a text in UTF-16 code units.
+#[unsafe(no_mangle)]
+pub extern "C" fn encoding_text_mem_utf16_length_from_utf8_unchecked(src: &[u8]) -> usize
+    requires text { IsUtf8 src.now }
+    ensures { result ≡ length (flat_map encode_utf16 (chars src.now)) }
+{
+    mem::utf16_length_from_str(unsafe { from_utf8_unchecked(src) })
+}
+
+/// Returns the number of characters of a text.
+#[unsafe(no_mangle)]
+pub extern "C" fn encoding_text_utf8_count_unchecked(src: &[u8]) -> usize
+    requires text { IsUtf8 src.now }
+    ensures { result ≡ length (chars src.now) }
+{
+    count::str_count(unsafe { from_utf8_unchecked(src) })
 }
 
 /// Converts a text to UTF-16, and returns the number of code units written. The rest of `dst` is unchanged. Returns
