@@ -34,7 +34,7 @@ pub use latin1::{
 };
 pub use lengths::{
     latin1_length_from_utf8, utf8_length_from_latin1, utf8_length_from_utf16,
-    utf16_length_from_utf8,
+    utf16_length_from_str, utf16_length_from_utf8,
 };
 pub use replacing::{convert_utf8_to_utf16_partial, repair_slice_partial};
 pub use surrogates::{ensure_utf16_validity, utf16_valid_up_to};
