@@ -1,5 +1,5 @@
-//! Scans for indices that pass a test, many at a time by vectors, and the longest prefix of bytes below a bound, such as
-//! the ASCII prefix. Two vectors that may overlap cover a text of 4 to 128 units, so none is left to a loop.
+//! Scans for indices that pass a test, many at a time by vectors, and the longest prefix of bytes below a bound, such
+//! as the ASCII prefix. Two vectors that may overlap cover a text of 4 to 128 units, so none is left to a loop.
 
 ghost use Rattle.std.specs.Prelude.{◌≡◌, ℕ, ◌+◌, ◌*◌, ◌<◌, ◌≤◌, ◌↔◌, IsTrue, length, slice_index};
 ghost use lib.Count.{count_trailing_zeros};
@@ -21,7 +21,6 @@ pub trait Test {
 
 /// A test that finds the first of N indices that fails.
 pub trait LanePredicate<const N: usize>: Test {
-    /// Returns the mask of those of the N indices from `at` on that fail.
     fn failing(&self, at: usize) -> u64
         requires { (at + N ≤ Self.count self.now) × (0 < N) × (N ≤ 64) }
         ensures { Marks (Self.passes self.now) at N result };
@@ -29,13 +28,11 @@ pub trait LanePredicate<const N: usize>: Test {
 
 /// A test of W indices at once, by one vector of N or by several.
 pub trait AllPass<const N: usize, const W: usize>: Test {
-    /// Returns whether each of the W indices from `at` on passes.
     fn pass(&self, at: usize) -> bool
         requires { (at + W ≤ Self.count self.now) × IsWidth N W }
         ensures { IsTrue result ↔ PassBetween (Self.passes self.now) at (at + W) };
 }
 
-/// Returns how many of N indices precede the first that fails, by the mask of those that do.
 #[inline(always)]
 pub(crate) fn run_before<const N: usize>(failing: u64) -> usize
     ensures none_failing { failing ≡ 0 → result ≡ N }
@@ -48,7 +45,6 @@ pub(crate) fn run_before<const N: usize>(failing: u64) -> usize
     }
 }
 
-/// Returns how many of the N indices from `at` on precede the first that fails.
 #[inline(always)]
 pub(crate) fn run<const N: usize, T: LanePredicate<N>>(test: &T, at: usize) -> usize
     requires { (at + N ≤ T.count test.now) × (0 < N) × (N ≤ 64) }
@@ -57,8 +53,6 @@ pub(crate) fn run<const N: usize, T: LanePredicate<N>>(test: &T, at: usize) -> u
     run_before::<N>(test.failing(at))
 }
 
-/// Skips W indices at a time from `from` on, no farther than `end`, while they pass, and returns the index that it
-/// reaches.
 #[inline(always)]
 pub(crate) fn skip<const N: usize, const W: usize, T: AllPass<N, W>>(
     test: &T,
@@ -81,7 +75,7 @@ pub(crate) fn skip<const N: usize, const W: usize, T: AllPass<N, W>>(
     at
 }
 
-/// Skips as far as `skip`, or to `end` if the last W indices before it pass too. These may overlap the ones before.
+/// The last W indices may overlap the ones before.
 #[inline(always)]
 pub(crate) fn reach<const N: usize, const W: usize, T: AllPass<N, W>>(
     test: &T,
@@ -103,8 +97,7 @@ pub(crate) fn reach<const N: usize, const W: usize, T: AllPass<N, W>>(
     at
 }
 
-/// Returns the first index before `end` that fails, or `end`, given that all before `from` pass. Scans N indices at a
-/// time, and the last N may overlap the ones before.
+/// The last N indices may overlap the ones before.
 #[inline(always)]
 pub(crate) fn find<const N: usize, T: LanePredicate<N> + AllPass<N, N>>(
     test: &T,
@@ -126,7 +119,6 @@ pub(crate) fn find<const N: usize, T: LanePredicate<N> + AllPass<N, N>>(
     place + run::<N, T>(test, place)
 }
 
-/// Returns whether each of N to 2 * N indices passes.
 #[inline(always)]
 pub(super) fn pass_by_two<const N: usize, T: AllPass<N, N>>(test: &T, count: usize) -> bool
     requires count { (count ≤ T.count test.now) × (N ≤ count) × (count ≤ 2 * N) }
@@ -136,7 +128,7 @@ pub(super) fn pass_by_two<const N: usize, T: AllPass<N, N>>(test: &T, count: usi
     test.pass(0) & test.pass(count - N)
 }
 
-/// Returns whether each of one, two or three indices passes. May test one twice: a branch for each count costs more.
+/// May test an index twice: a branch for each count costs more.
 #[inline(always)]
 pub(super) fn pass_few<T: AllPass<1, 1>>(test: &T, count: usize) -> bool
     requires { (count ≤ T.count test.now) × (0 < count) × (count ≤ 3) }
@@ -145,8 +137,7 @@ pub(super) fn pass_few<T: AllPass<1, 1>>(test: &T, count: usize) -> bool
     test.pass(0) & test.pass(count / 2) & test.pass(count - 1)
 }
 
-/// Returns whether each of the first `count` indices passes. Tests of the length begin with the longest texts, since a test that
-/// fails is a jump.
+/// Tests of the length begin with the longest texts, since a test that fails is a jump.
 #[inline(always)]
 pub fn pass_short<const LONGEST: usize, T>(test: &T, count: usize) -> bool
 where
@@ -239,7 +230,6 @@ impl<'a> AllPass<HALF_BLOCK, FOUR_BLOCKS> for BytesBelow<'a> {
     }
 }
 
-/// Returns zero in the lanes of those of the 32 bytes from `at` on that are below the bound.
 #[inline(always)]
 fn others_of_32(bytes: &[u8], at: usize, bound: u8) -> u8x32
     requires { at + 32 ≤ length bytes.now }
@@ -249,7 +239,6 @@ fn others_of_32(bytes: &[u8], at: usize, bound: u8) -> u8x32
     others.select(u8x32::splat(0xFF), u8x32::splat(0))
 }
 
-/// Returns whether each of the N bytes from `at` on is below the bound.
 #[inline(always)]
 pub fn are_bytes_below<const N: usize>(bytes: &[u8], at: usize, bound: u8) -> bool
     requires { (at + N ≤ length bytes.now) × (0 < N) × (N ≤ 64) }
@@ -258,7 +247,6 @@ pub fn are_bytes_below<const N: usize>(bytes: &[u8], at: usize, bound: u8) -> bo
     AllPass::<N, N>::pass(&BytesBelow { bytes, bound }, at)
 }
 
-/// Returns whether each of the 256 bytes from `at` on is below the bound.
 #[inline(always)]
 pub fn are_256_below(bytes: &[u8], at: usize, bound: u8) -> bool
     requires { at + 256 ≤ length bytes.now }
@@ -267,7 +255,6 @@ pub fn are_256_below(bytes: &[u8], at: usize, bound: u8) -> bool
     AllPass::<HALF_BLOCK, FOUR_BLOCKS>::pass(&BytesBelow { bytes, bound }, at)
 }
 
-/// Returns how many of the N bytes from `at` on precede the first that isn't below the bound.
 #[inline(always)]
 pub fn run_len_below<const N: usize>(bytes: &[u8], at: usize, bound: u8) -> usize
     requires { (at + N ≤ length bytes.now) × (0 < N) × (N ≤ 64) }
@@ -276,8 +263,7 @@ pub fn run_len_below<const N: usize>(bytes: &[u8], at: usize, bound: u8) -> usiz
     run::<N, _>(&BytesBelow { bytes, bound }, at)
 }
 
-/// Returns how many bytes precede the first that isn't below the bound, of at least N and at most 2 * N. Both of two vectors, which may
-/// overlap, are tested, so that no branch depends on the bytes.
+/// Both of two vectors, which may overlap, are tested, so that no branch depends on the bytes.
 #[inline(always)]
 pub fn run_len_by_two<const N: usize>(bytes: &[u8], bound: u8) -> usize
     requires { (0 < N) × (N ≤ 64) × (N ≤ length bytes.now) × (length bytes.now ≤ 2 * N) }
@@ -289,8 +275,7 @@ pub fn run_len_by_two<const N: usize>(bytes: &[u8], bound: u8) -> usize
     if first < N { first } else { last + second }
 }
 
-/// Returns the length of the longest prefix of bytes below `bound`. Checks the first vector separately, since most
-/// prefixes end there.
+/// Checks the first vector separately, since most prefixes end there.
 #[inline(always)]
 pub fn prefix_len_below(bytes: &[u8], bound: u8) -> usize
     ensures within { result ≤ length bytes.now }
@@ -314,7 +299,6 @@ pub fn prefix_len_below(bytes: &[u8], bound: u8) -> usize
     at
 }
 
-/// Returns the length of the longest prefix of bytes below the bound, given that those of the first stride are.
 #[inline(always)]
 pub fn prefix_after_stride(bytes: &[u8], bound: u8) -> usize
     requires { (16 ≤ length bytes.now) × BelowUpTo bound bytes.now 16 }
@@ -330,7 +314,7 @@ pub fn prefix_after_stride(bytes: &[u8], bound: u8) -> usize
     find::<BLOCK, _>(&test, by_blocks, bytes.len())
 }
 
-/// Returns whether each lane is zero, by words of 64 bits: ARM has no instruction for the mask of a vector.
+/// By words of 64 bits: ARM has no instruction for the mask of a vector.
 #[inline(always)]
 pub(crate) fn is_zero(lanes: u8x32) -> bool
     ensures { IsTrue result ↔ IsZeroTo lanes 32 }
@@ -338,7 +322,6 @@ pub(crate) fn is_zero(lanes: u8x32) -> bool
     u64x4::from_le_bytes(lanes).reduce_or() == 0
 }
 
-/// Returns how many lanes precede the first that isn't zero.
 #[inline(always)]
 pub(crate) fn zeros<const N: usize>(lanes: Simd<u8, N>) -> usize
     requires { N ≤ 64 }

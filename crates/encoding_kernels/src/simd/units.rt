@@ -45,8 +45,8 @@ impl<'a> AllPass<STRIDE, HALF_UNIT_BLOCK> for UnitsBelow<'a> {
     }
 }
 
-/// Returns zero in the bytes of those of the 32 code units from `at` on that are below the bound, as words of 64 bits are
-/// tested: to get a mask, x86-64 would pack the units first, and ARM has no instruction for one.
+/// Words of 64 bits are tested: to get a mask, x86-64 would pack the units first, and ARM has no instruction
+/// for one.
 #[inline(always)]
 fn others_of_32(units: &[u16], at: usize, bound: u16) -> u8x64
     requires { at + 32 ≤ length units.now }
@@ -58,7 +58,6 @@ fn others_of_32(units: &[u16], at: usize, bound: u16) -> u8x64
         .to_le_bytes()
 }
 
-/// Returns whether each lane of a block is zero.
 #[inline(always)]
 fn is_zero_block(lanes: u8x64) -> bool
     ensures { IsTrue result ↔ IsZeroTo lanes 64 }
@@ -66,7 +65,6 @@ fn is_zero_block(lanes: u8x64) -> bool
     u64x8::from_le_bytes(lanes).reduce_or() == 0
 }
 
-/// Returns whether each of the N UTF-16 code units from `at` on is below the bound.
 #[inline(always)]
 pub fn are_units_below<const N: usize>(units: &[u16], at: usize, bound: u16) -> bool
     requires { (at + N ≤ length units.now) × (0 < N) × (N ≤ 64) }
@@ -75,7 +73,6 @@ pub fn are_units_below<const N: usize>(units: &[u16], at: usize, bound: u16) -> 
     AllPass::<N, N>::pass(&UnitsBelow { units, bound }, at)
 }
 
-/// Returns how many of the N UTF-16 code units from `at` on precede the first that isn't below the bound.
 #[inline(always)]
 pub fn units_run_len_below<const N: usize>(units: &[u16], at: usize, bound: u16) -> usize
     requires { (at + N ≤ length units.now) × (0 < N) × (N ≤ 64) }
@@ -84,7 +81,6 @@ pub fn units_run_len_below<const N: usize>(units: &[u16], at: usize, bound: u16)
     run::<N, _>(&UnitsBelow { units, bound }, at)
 }
 
-/// Returns the length of the longest prefix of UTF-16 code units below the bound.
 #[inline(always)]
 pub fn units_prefix_len_below(units: &[u16], bound: u16) -> usize
     ensures within { result ≤ length units.now }
@@ -99,8 +95,7 @@ pub fn units_prefix_len_below(units: &[u16], bound: u16) -> usize
     }
 }
 
-/// Skips UTF-16 code units from the start that are below the bound, by vectors, and returns how many: all if all are. A unit
-/// that isn't may follow others that are, which are not skipped.
+/// By vectors, so it may stop earlier than the first unit that isn't below the bound.
 #[inline(always)]
 pub fn skip_units_below(units: &[u16], bound: u16) -> usize
     ensures within { result ≤ length units.now }

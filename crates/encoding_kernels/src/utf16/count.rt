@@ -21,7 +21,7 @@ const LANES: usize = 32;
 /// The least surrogate.
 const FIRST_SURROGATE: u16 = 0xD800;
 
-/// Returns, without a branch, whether two code units are a surrogate pair.
+/// Without a branch.
 #[inline(always)]
 fn is_pair(unit: u16, next: u16) -> bool
     ensures { result ≡ is_surrogate_pair unit next }
@@ -29,7 +29,6 @@ fn is_pair(unit: u16, next: u16) -> bool
     (unit & 0xFC00 == 0xD800) & (next & 0xFC00 == 0xDC00)
 }
 
-/// Returns 1 in each lane in which the two code units are a surrogate pair, and 0 in the others.
 #[inline(always)]
 fn pair_lanes<const N: usize>(units: Simd<u16, N>, next: Simd<u16, N>) -> Simd<u8, N>
     ensures { HasLanes N result
@@ -99,8 +98,6 @@ impl<'a, const N: usize> Terms<N> for Pairs<'a> {
     ghost few = { λ _ xs. bool_few (is_surrogate_pair (slice_index xs 0) (slice_index xs 1)) };
 }
 
-/// Returns the number of characters and unpaired surrogates in the code units: that of the units, less one for each
-/// pair.
 pub fn parts_of_units(units: &[u16]) -> usize
     ensures { (parts : List Part16) × ArePartsOf16 units.now parts × (result ≡ length parts) }
 {

@@ -1,6 +1,6 @@
-//! The tables of the look-ups that find the bytes that may not follow those before them: Keiser and Lemire, "Validating UTF-8
-//! In Less Than One Instruction Per Byte". Three tables, by the nibbles of two adjacent bytes, each leave some errors possible.
-//! An error has a bit, and is there if all three leave it.
+//! The tables of the look-ups that find the bytes that may not follow those before them: Keiser and Lemire,
+//! "Validating UTF-8 In Less Than One Instruction Per Byte". Three tables, by the nibbles of two adjacent bytes, each
+//! leave some errors possible. An error has a bit, and is there if all three leave it.
 
 use crate::simd::lookup::twice;
 

@@ -1,6 +1,6 @@
-//! Validates UTF-8 by blocks of 64 bytes, and 8 to 64 bytes by one vector or two that may overlap. Look-ups find the bytes that
-//! may not follow those before them. The previous bytes are loaded separately, so that a block carries no state. ASCII before
-//! the blocks, and long runs of it between them, are the caller's.
+//! Validates UTF-8 by blocks of 64 bytes, and 8 to 64 bytes by one vector or two that may overlap. Look-ups find the
+//! bytes that may not follow those before them. The previous bytes are loaded separately, so that a block carries no
+//! state. ASCII before the blocks, and long runs of it between them, are the caller's.
 
 ghost use Rattle.std.specs.Prelude.{◌≡◌, ℕ, ◌+◌, ◌-◌, ◌*◌, ◌<◌, ◌≤◌, ◌∷◌, ◌++◌, length, take, drop, replicate, slice_index};
 ghost use Rattle.encoding_kernels.specs.Scans.{BelowUpTo, HasLanes};
@@ -13,7 +13,7 @@ use crate::tuning::MOST_SKIPPED;
 use crate::utf8::lookups::{BYTE_1_HIGH, BYTE_1_LOW, BYTE_2_HIGH};
 use std::simd::prelude::*;
 
-/// Returns the first eight of eight to sixteen bytes, followed by the last eight, which may overlap.
+/// The two halves may overlap.
 #[inline(always)]
 pub(crate) fn first_and_last_eight(src: &[u8]) -> u8x16
     requires { (8 ≤ length src.now) × (length src.now ≤ 16) }
@@ -25,8 +25,7 @@ pub(crate) fn first_and_last_eight(src: &[u8]) -> u8x16
     )
 }
 
-/// Returns eight to sixteen bytes, followed by zeros: the first eight, and those of the last eight after
-/// these. Uses only loads, since a load of what two stores wrote would stall on store forwarding.
+/// Uses only loads, since a load of what two stores wrote would stall on store forwarding.
 #[inline(always)]
 pub(crate) fn with_zeros(src: &[u8]) -> u8x16
     requires { (8 ≤ length src.now) × (length src.now ≤ 16) }
@@ -41,7 +40,7 @@ pub(crate) fn with_zeros(src: &[u8]) -> u8x16
     lanes.simd_lt(count).select(bytes, u8x16::splat(0))
 }
 
-/// Returns for each lane the bytes three, two and one lanes before it, and zeros before the first.
+/// The bytes three, two and one lanes before each, and zeros before the first.
 #[inline(always)]
 pub(crate) fn lanes_before(block: u8x16) -> (u8x16, u8x16, u8x16)
     ensures three { HasLanes 16 result.0 (λ k. slice_index (0 ∷ 0 ∷ 0 ∷ block) k) }
@@ -71,8 +70,7 @@ pub(crate) fn lanes_before(block: u8x16) -> (u8x16, u8x16, u8x16)
     )
 }
 
-/// Returns the bytes three, two and one before each of the sixteen from `at` on. If BEFORE is 0, these are the first of the text,
-/// and zeros precede it.
+/// The bytes three, two and one before each of the sixteen. If BEFORE is 0, zeros precede the text.
 #[inline(always)]
 pub(crate) fn bytes_before<const BEFORE: usize>(src: &[u8], at: usize) -> (u8x16, u8x16, u8x16)
     requires { (BEFORE ≤ at) × (BEFORE < 3 → at ≡ 0) × (at + 16 ≤ length src.now) }
@@ -89,8 +87,7 @@ pub(crate) fn bytes_before<const BEFORE: usize>(src: &[u8], at: usize) -> (u8x16
     (three, two, one)
 }
 
-/// Returns the bytes three, two and one before each of the 32 from `at` on. If BEFORE is 0, these are the first of the text, and
-/// zeros precede it.
+/// The bytes three, two and one before each of the 32. If BEFORE is 0, zeros precede the text.
 #[inline(always)]
 fn bytes_before_32<const BEFORE: usize>(src: &[u8], at: usize) -> (u8x32, u8x32, u8x32)
     requires { (BEFORE ≤ at) × (BEFORE < 3 → at ≡ 0) × (at + 32 ≤ length src.now) }
@@ -129,8 +126,7 @@ fn bytes_before_32<const BEFORE: usize>(src: &[u8], at: usize) -> (u8x32, u8x32,
     (three, two, one)
 }
 
-/// Returns, for the sixteen bytes from `at` on, zero in each lane whose byte may follow the three before it. If BEFORE is 0, they are
-/// the first of the text.
+/// A lane is zero if its byte may follow the three before it.
 #[inline(always)]
 fn faults<const BEFORE: usize>(src: &[u8], at: usize) -> u8x16
     requires { (BEFORE ≤ at) × (BEFORE < 3 → at ≡ 0) × (at + 16 ≤ length src.now) }
@@ -148,8 +144,7 @@ fn faults<const BEFORE: usize>(src: &[u8], at: usize) -> u8x16
     (goes_on & u8x16::splat(0x80)) ^ pairs
 }
 
-/// Returns, for the 32 bytes from `at` on, zero in each lane whose byte may follow the three before it. If BEFORE is 0, they are the
-/// first of the text.
+/// A lane is zero if its byte may follow the three before it.
 #[inline(always)]
 fn faults_32<const BEFORE: usize>(src: &[u8], at: usize) -> u8x32
     requires { (BEFORE ≤ at) × (BEFORE < 3 → at ≡ 0) × (at + 32 ≤ length src.now) }
@@ -167,8 +162,7 @@ fn faults_32<const BEFORE: usize>(src: &[u8], at: usize) -> u8x32
     (goes_on & u8x32::splat(0x80)) ^ pairs
 }
 
-/// Returns how many of the 64 bytes from `at` on, or of all the bytes if they are fewer, precede the first that may not follow
-/// the three before it. If BEFORE is 0, they are the first of the text, and zeros precede it.
+/// If BEFORE is 0, the bytes are the first of the text, and zeros precede it.
 #[tactic(auto, using(crate::proofs::Utf8ValidationLemmas::ValidUpTo_over))]
 #[inline(always)]
 fn clean_of_64<const BEFORE: usize>(src: &[u8], at: usize) -> usize
@@ -195,7 +189,6 @@ fn clean_of_64<const BEFORE: usize>(src: &[u8], at: usize) -> usize
     last - at + zeros(second)
 }
 
-/// Returns how many of the 128 bytes from `at` on precede the first that may not follow the three before it.
 #[inline(always)]
 fn clean_of_128(src: &[u8], at: usize) -> usize
     requires { (3 ≤ at) × (at + 128 ≤ length src.now) }
@@ -209,8 +202,7 @@ fn clean_of_128(src: &[u8], at: usize) -> usize
     BLOCK + clean_of_64::<3>(src, at + BLOCK)
 }
 
-/// Returns how many of the 256 bytes from `at` on precede the first that may not follow the three before it. The tables are loaded
-/// once for all four blocks.
+/// The tables are loaded once for all four blocks.
 #[inline(always)]
 fn clean_of_256(src: &[u8], at: usize) -> usize
     requires { (3 ≤ at) × (at + 256 ≤ length src.now) }
@@ -224,7 +216,6 @@ fn clean_of_256(src: &[u8], at: usize) -> usize
     TWO_BLOCKS + clean_of_128(src, at + TWO_BLOCKS)
 }
 
-/// Returns `at`, or the start of the character that is cut there.
 #[tactic(auto, using(crate::proofs::Utf8ValidationLemmas::IsUtf8_before, crate::proofs::Utf8ValidationLemmas::IsUtf8_closed, crate::proofs::Utf8ValidationLemmas::IsClosedAt_tests))]
 fn back(src: &[u8], at: usize) -> usize
     requires { (at ≤ length src.now) × ValidUpTo src.now at }
@@ -245,10 +236,8 @@ fn back(src: &[u8], at: usize) -> usize
     at
 }
 
-/// Extends a prefix of `from` bytes that may each follow those before it by ASCII, 128 bytes at a time and at most a limited
-/// number of times, and returns the new length. The ASCII has to begin three bytes before `from`: then no character is cut there.
-///
-/// A vector has no more lanes than those of the look-ups. The loads of these begin up to three bytes apart from it, and the
+/// The ASCII has to begin three bytes before `from`: then no character is cut there. A vector has no more
+/// lanes than those of the look-ups. The loads of these begin up to three bytes apart from it, and the
 /// compiler would take them out of a longer vector byte by byte.
 #[inline(always)]
 fn skip_ascii(src: &[u8], from: usize) -> usize
@@ -256,8 +245,8 @@ fn skip_ascii(src: &[u8], from: usize) -> usize
     requires prefix { ValidUpTo src.now from }
     ensures { (from ≤ result) × (result ≤ length src.now) × ValidUpTo src.now result }
 {
-    // The first half of each of the next four blocks: most other text shows there. Text from beyond the nearest caches is validated
-    // faster by that than by a test of adjacent bytes alone.
+    // The first half of each of the next four blocks: most other text shows there. Text from beyond the nearest
+    // caches is validated faster by that than by a test of adjacent bytes alone.
     let next = from + TWO_BLOCKS;
     let first = u8x32::from_slice(&src[from..]) | u8x32::from_slice(&src[from + BLOCK..]);
     let second = u8x32::from_slice(&src[next..]) | u8x32::from_slice(&src[next + BLOCK..]);
@@ -276,8 +265,7 @@ fn skip_ascii(src: &[u8], from: usize) -> usize
     skip::<HALF_BLOCK, TWO_BLOCKS, _>(&ascii, at, at + most)
 }
 
-/// Extends a prefix of `from` bytes that may each follow those before it, 64 at a time, and returns its length. The
-/// last 64 may begin before `from`.
+/// The last 64 bytes may begin before `from`.
 #[tactic(auto, using(crate::proofs::Utf8ValidationLemmas::ValidUpTo_less))]
 #[inline(always)]
 fn finish(src: &[u8], from: usize) -> usize
@@ -299,12 +287,13 @@ fn finish(src: &[u8], from: usize) -> usize
     last + clean_of_64::<3>(src, last)
 }
 
-/// Extends a prefix of `from` bytes that may each follow those before it, and returns its length. Stops in a long run of
-/// ASCII. Out of line, so that the address of the loop, and so its speed, doesn't depend on the caller.
+/// Stops in a long run of ASCII. Out of line, so that the address of the loop, and so its speed, doesn't
+/// depend on the caller.
 ///
-/// ASCII that begins three bytes before `at` needs no look-ups, since no character is cut there. It is tested for before each four
-/// blocks. After ASCII two blocks follow without a test, since the next byte that isn't ASCII is in them. With fewer than 256 bytes
-/// left it isn't tested for: a test that fails would cost more than it saves there.
+/// ASCII that begins three bytes before `at` needs no look-ups, since no character is cut there. It is tested
+/// for before each four blocks. After ASCII two blocks follow without a test, since the next byte that isn't
+/// ASCII is in them. With fewer than 256 bytes left it isn't tested for: a test that fails would cost more
+/// than it saves there.
 #[inline(never)]
 fn following(src: &[u8], from: usize) -> usize
     requires src_length { 64 ≤ length src.now }
@@ -351,7 +340,7 @@ fn following(src: &[u8], from: usize) -> usize
     finish(src, at)
 }
 
-/// Returns the length of a well-formed prefix of 8 to 64 bytes, by one vector or two that may overlap.
+/// By one vector, or two that may overlap.
 #[inline(always)]
 pub fn well_formed_short(src: &[u8]) -> usize
     requires { (8 ≤ length src.now) × (length src.now ≤ 64) }
@@ -376,8 +365,7 @@ pub fn well_formed_short(src: &[u8]) -> usize
     back(src, clean)
 }
 
-/// Returns the length of a well-formed prefix of at least 64 bytes, if the first `ascii` are ASCII. A longer prefix may be
-/// well-formed too: this one ends in the first long run of ASCII after a block.
+/// Ends in the first long run of ASCII after a block, though a longer prefix may be well-formed.
 #[tactic(auto, using(crate::proofs::Utf8ValidationLemmas::IsUtf8_ascii_prefix, crate::proofs::Utf8ValidationLemmas::ValidUpTo_ascii_prefix))]
 #[inline(always)]
 pub fn well_formed_blocks(src: &[u8], ascii: usize) -> usize
