@@ -2,7 +2,8 @@
 //! scalar values in UTF-8 and UTF-16, and surrogates (section 3.9, UTF-16). A function that writes leaves the rest of
 //! `dst` unchanged.
 
-ghost use Rattle.std.specs.Prelude.{◌≡◌, ℕ, ◌+◌, ◌↔◌, List, [], ◌∷◌, length, IsTrue, ◌<◌, ◌≤◌, encode_utf8, IfSome, IfNone};
+ghost use Rattle.std.specs.Prelude.{◌≡◌, ℕ, ◌+◌, ◌↔◌, List, [], ◌∷◌, length, IsTrue};
+ghost use Rattle.std.specs.Prelude.{◌<◌, ◌≤◌, encode_utf8, IfSome, IfNone};
 ghost use Rattle.encoding_definitions.specs.Sequence.{IsSequence, IsIncomplete, IsSecond, IsContinuation};
 ghost use Rattle.std.specs.Char.{IsScalar, len_utf8};
 ghost use Rattle.std.specs.Char.Escape.{encode_utf16};

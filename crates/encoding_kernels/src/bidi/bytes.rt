@@ -3,7 +3,8 @@
 //! three bytes only if all six leave it. Fewer bytes than a block are tested by ranges.
 
 ghost use Rattle.std.specs.Prelude.{◌≡◌, ℕ, false, ◌+◌, ◌-◌, ◌<◌, ◌≤◌, length, slice_index, IsTrue};
-ghost use Rattle.encoding_kernels.specs.RightToLeft.{RtlAt, NoRtlIn, rtl_second_end, rtl_mark_lead, may_start_rtl, HasNoRtlAt};
+ghost use Rattle.encoding_kernels.specs.RightToLeft.{RtlAt, NoRtlIn, rtl_second_end};
+ghost use Rattle.encoding_kernels.specs.RightToLeft.{rtl_mark_lead, may_start_rtl, HasNoRtlAt};
 ghost use Rattle.encoding_kernels.specs.Scans.{HasLanes};
 
 use crate::simd::lookup::twice;
@@ -249,7 +250,8 @@ struct LowBytes<'a> {
 impl<'a> Test for LowBytes<'a> {
     ghost count = { λ s. length s.bytes.now - 2 };
 
-    ghost passes = { λ s k. may_start_rtl (slice_index s.bytes.now k) (rtl_mark_lead (slice_index s.bytes.now (k + 2))) ≡ false };
+    ghost passes = { λ s k. may_start_rtl (slice_index s.bytes.now k)
+        (rtl_mark_lead (slice_index s.bytes.now (k + 2))) ≡ false };
 }
 
 impl<'a, const N: usize> AllPass<N, N> for LowBytes<'a> {

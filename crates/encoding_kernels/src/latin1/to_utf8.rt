@@ -1,7 +1,8 @@
 //! The UTF-8 of Latin1 by strides of sixteen bytes: both bytes of each are computed, and the kept ones are looked up
 //! by a mask.
 
-ghost use Rattle.std.specs.Prelude.{◌≡◌, ℕ, ◌+◌, ◌*◌, ◌<◌, ◌≤◌, ◌++◌, nat_le, length, map, take, drop, slice_index, encode_utf8_all};
+ghost use Rattle.std.specs.Prelude.{◌≡◌, ℕ, ◌+◌, ◌*◌, ◌<◌, ◌≤◌, ◌++◌, nat_le, length};
+ghost use Rattle.std.specs.Prelude.{map, take, drop, slice_index, encode_utf8_all};
 ghost use Rattle.std.specs.Simd.Lanes.{mask_l};
 ghost use Rattle.encoding_definitions.specs.Prefixes.{WritesPrefix};
 ghost use Rattle.encoding_kernels.specs.KeptBytes.{EncodesTo};

@@ -2,7 +2,8 @@
 //! unchanged. A text of at most 128 bytes, or 64 UTF-16 code units, is tested as a whole and then copied, some units
 //! twice to the same index.
 
-ghost use Rattle.std.specs.Prelude.{◌≡◌, ◌+◌, ◌*◌, ◌%◌, ◌<◌, ◌≤◌, ◌++◌, length, map, take, drop, slice_index, ℕ, List, ◌-◌, ◌↔◌, IsTrue, IsFalse, replicate, refl};
+ghost use Rattle.std.specs.Prelude.{◌≡◌, ◌+◌, ◌*◌, ◌%◌, ◌<◌, ◌≤◌, ◌++◌, length, map, take, drop};
+ghost use Rattle.std.specs.Prelude.{slice_index, ℕ, List, ◌-◌, ◌↔◌, IsTrue, IsFalse, replicate, refl};
 ghost use Rattle.encoding_definitions.specs.Prefixes.{WritesPrefix};
 ghost use Rattle.encoding_kernels.specs.Scans.{AllBelow, HasLanes, PassBetween};
 

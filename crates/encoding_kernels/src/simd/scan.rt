@@ -4,7 +4,8 @@
 ghost use Rattle.std.specs.Prelude.{◌≡◌, ℕ, ◌+◌, ◌*◌, ◌<◌, ◌≤◌, ◌↔◌, IsTrue, length, slice_index};
 ghost use lib.Count.{count_trailing_zeros};
 ghost use Rattle.encoding_kernels.specs.Following.{IsZeroTo};
-ghost use Rattle.encoding_kernels.specs.Scans.{PassBetween, IsPassRun, IsWidth, Marks, JoinsOthers, AllBelow, IsRunBelow, BelowUpTo};
+ghost use Rattle.encoding_kernels.specs.Scans.{PassBetween, IsPassRun, IsWidth, Marks};
+ghost use Rattle.encoding_kernels.specs.Scans.{JoinsOthers, AllBelow, IsRunBelow, BelowUpTo};
 
 use crate::simd::width::{
     BLOCK, FOUR_BLOCKS, HALF_BLOCK, HALF_STRIDE, QUARTER_STRIDE, STRIDE, TWO_BLOCKS,

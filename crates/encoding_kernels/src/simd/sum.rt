@@ -1,6 +1,7 @@
 //! Sums over the indices of a text: the term of each is decided by the unit there and those after it, and vectors
 //! compute the terms of many indices at a time.
-ghost use Rattle.std.specs.Prelude.{◌≡◌, ℕ, ◌+◌, ◌*◌, ◌^◌, ◌<◌, ◌≤◌, List, length, drop, slice_index, nat_lt, if◌then◌else◌};
+ghost use Rattle.std.specs.Prelude.{◌≡◌, ℕ, ◌+◌, ◌*◌, ◌^◌, ◌<◌, ◌≤◌, List, length};
+ghost use Rattle.std.specs.Prelude.{drop, slice_index, nat_lt, if◌then◌else◌};
 ghost use Rattle.std.specs.Simd.Lanes.{sum_l};
 ghost use Rattle.encoding_kernels.specs.Scans.{HasLanes};
 ghost use Rattle.encoding_kernels.specs.Lengths.{sum_over_suffixes};
@@ -129,7 +130,7 @@ fn sum_by<const N: usize, const SPAN: usize, T: Terms<N>>(
     sum + sum_of_last::<N, T>(terms, at, end)
 }
 
-#[tactic(auto, using(std::proofs::lemmas::Grind::common_steps, crate::proofs::SumLemmas::total_end, crate::proofs::SumLemmas::total_next))]
+#[tactic(auto, using(std::proofs::lemmas::Grind::common_steps, crate::proofs::SumLemmas::single_terms))]
 #[inline(always)]
 fn sum_singly<const N: usize, T: Terms<N>>(terms: &T, from: usize) -> usize
     requires within { from ≤ length (T.text terms.now) }

@@ -1,7 +1,8 @@
 //! UTF-16LE and UTF-16BE, whose code units are two bytes each, by vectors of sixteen code units. `big` says that the
 //! more significant byte comes first.
 
-ghost use Rattle.std.specs.Prelude.{◌≡◌, ℕ, List, ◌+◌, ◌-◌, ◌*◌, ◌<◌, ◌≤◌, ◌++◌, IsTrue, length, take, drop, slice_index};
+ghost use Rattle.std.specs.Prelude.{◌≡◌, ℕ, List, ◌+◌, ◌-◌, ◌*◌, ◌<◌, ◌≤◌, ◌++◌};
+ghost use Rattle.std.specs.Prelude.{IsTrue, length, take, drop, slice_index};
 ghost use Rattle.encoding_definitions.specs.Prefixes.{WritesPrefix};
 ghost use Rattle.encoding_definitions.specs.Utf16.{AreCodeUnits};
 ghost use Rattle.encoding_kernels.specs.Scans.{AllBelow, BelowUpTo};

@@ -96,7 +96,7 @@ pub fn paired_run(units: &[u16], at: usize) -> usize
     HALF_STRIDE + run::<HALF_STRIDE, _>(&test, HALF_STRIDE - 1)
 }
 
-#[tactic(auto, using(crate::proofs::PairsLemmas::valid_start, crate::proofs::PairsLemmas::valid_whole, crate::proofs::PairsLemmas::valid_cut))]
+#[tactic(auto, using(crate::proofs::PairsLemmas::cut_pairs))]
 #[inline(always)]
 pub fn before_cut_pair(units: &[u16], at: usize) -> usize
     requires { (at ≤ length units.now) × PairUp units.now 0 at }

@@ -1,7 +1,8 @@
 //! The UTF-8 of sixteen code units that are no surrogates: each has four bytes, and a table selects and orders those of
 //! its UTF-8.
 
-ghost use Rattle.std.specs.Prelude.{◌≡◌, ℕ, ◌+◌, ◌*◌, ◌<◌, ◌≤◌, ◌++◌, length, take, drop, slice_index, encode_utf8_all, IsTrue, ◌/◌, ◌%◌, List, replicate};
+ghost use Rattle.std.specs.Prelude.{◌≡◌, ℕ, ◌+◌, ◌*◌, ◌<◌, ◌≤◌, ◌++◌, length, take, drop, slice_index};
+ghost use Rattle.std.specs.Prelude.{encode_utf8_all, IsTrue, ◌/◌, ◌%◌, List, replicate};
 ghost use Rattle.encoding_definitions.specs.Prefixes.{WritesPrefix};
 ghost use Rattle.std.specs.Simd.Lanes.{mask_l};
 ghost use Rattle.encoding_kernels.specs.Utf8Output.{Spills};

@@ -1,9 +1,11 @@
 //! Blocks of code units that are below U+0800 or halves of a surrogate pair, which have two bytes each in UTF-8.
 
-ghost use Rattle.std.specs.Prelude.{◌≡◌, ℕ, ◌+◌, ◌*◌, ◌<◌, ◌≤◌, ◌++◌, length, take, drop, slice_index, IsTrue, nat_le, map, ◌⊎◌};
+ghost use Rattle.std.specs.Prelude.{◌≡◌, ℕ, ◌+◌, ◌*◌, ◌<◌, ◌≤◌, ◌++◌, length, take};
+ghost use Rattle.std.specs.Prelude.{drop, slice_index, IsTrue, nat_le, map, ◌⊎◌};
 ghost use Rattle.std.specs.Simd.Lanes.{mask_l};
 ghost use Rattle.encoding_definitions.specs.Utf16.{AreCodeUnits, IsHighSurrogate};
-ghost use Rattle.encoding_kernels.specs.SurrogatePairs.{AreTwoByteOrPaired, IsTwoByteOrHalf, EncodesHalf, half_bytes, concatenated, halves_from};
+ghost use Rattle.encoding_kernels.specs.SurrogatePairs.{AreTwoByteOrPaired, IsTwoByteOrHalf, EncodesHalf};
+ghost use Rattle.encoding_kernels.specs.SurrogatePairs.{half_bytes, concatenated, halves_from};
 
 use crate::scalar::{is_high_surrogate, is_low_surrogate};
 use crate::simd::compress::{keep_pairs, write_both};

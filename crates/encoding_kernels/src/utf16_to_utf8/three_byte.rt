@@ -1,6 +1,7 @@
 //! Blocks of code units from U+0800 on that are no surrogates.
 
-ghost use Rattle.std.specs.Prelude.{◌≡◌, ℕ, ◌+◌, ◌<◌, ◌≤◌, ◌++◌, length, take, drop, slice_index, encode_utf8_all, IsTrue};
+ghost use Rattle.std.specs.Prelude.{◌≡◌, ℕ, ◌+◌, ◌<◌, ◌≤◌, ◌++◌, length, take};
+ghost use Rattle.std.specs.Prelude.{drop, slice_index, encode_utf8_all, IsTrue};
 ghost use Rattle.encoding_kernels.specs.Utf8Output.{Spills};
 
 use std::simd::prelude::*;

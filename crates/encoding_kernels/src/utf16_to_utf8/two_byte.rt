@@ -1,6 +1,7 @@
 //! Blocks of code units below U+0800: two bytes for each are computed, and a table selects those of its UTF-8.
 
-ghost use Rattle.std.specs.Prelude.{◌≡◌, ℕ, ◌+◌, ◌*◌, ◌<◌, ◌≤◌, ◌++◌, length, take, slice_index, encode_utf8_all, IsTrue, nat_le, map};
+ghost use Rattle.std.specs.Prelude.{◌≡◌, ℕ, ◌+◌, ◌*◌, ◌<◌, ◌≤◌, ◌++◌, length, take};
+ghost use Rattle.std.specs.Prelude.{slice_index, encode_utf8_all, IsTrue, nat_le, map};
 ghost use Rattle.std.specs.Simd.Lanes.{mask_l};
 ghost use Rattle.encoding_kernels.specs.KeptBytes.{EncodesTo};
 ghost use Rattle.encoding_kernels.specs.Utf8Output.{Spills};

@@ -112,7 +112,8 @@ impl<'a, const N: usize> Terms<N> for FourBytes<'a> {
 
     ghost inside = { λ s. fewer (length s.bytes.now) 3 };
 
-    ghost few = { λ _ xs. bool_few (is_four_bytes (slice_index xs 0) (slice_index xs 1) (slice_index xs 2) (slice_index xs 3)) };
+    ghost few = { λ _ xs. bool_few
+        (is_four_bytes (slice_index xs 0) (slice_index xs 1) (slice_index xs 2) (slice_index xs 3)) };
 }
 
 #[inline(never)]

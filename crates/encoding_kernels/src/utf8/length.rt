@@ -2,7 +2,8 @@
 ghost use Rattle.std.specs.Prelude.{◌≡◌, ◌-◌, ◌+◌, ◌<◌, ◌≤◌, List, length, drop, slice_index};
 ghost use Rattle.encoding_definitions.specs.Parts.{Part, ArePartsOf, lossy_utf16};
 ghost use Rattle.encoding_kernels.specs.Scans.{BelowUpTo, HasLanes};
-ghost use Rattle.encoding_kernels.specs.Lengths.{sum_over_suffixes, goes_second, continuations, continuations_by, continuations_few, fewer};
+ghost use Rattle.encoding_kernels.specs.Lengths.{sum_over_suffixes, goes_second, continuations};
+ghost use Rattle.encoding_kernels.specs.Lengths.{continuations_by, continuations_few, fewer};
 
 use crate::simd::scan::{BytesBelow, pass_short, prefix_len_below, skip};
 use crate::simd::sum::{Terms, sum_from};

@@ -2,7 +2,8 @@
 //! bytes that may not follow those before them. The previous bytes are loaded separately, so that a block carries no
 //! state. ASCII before the blocks, and long runs of it between them, are the caller's.
 
-ghost use Rattle.std.specs.Prelude.{◌≡◌, ℕ, ◌+◌, ◌-◌, ◌*◌, ◌<◌, ◌≤◌, ◌∷◌, ◌++◌, length, take, drop, replicate, slice_index};
+ghost use Rattle.std.specs.Prelude.{◌≡◌, ℕ, ◌+◌, ◌-◌, ◌*◌, ◌<◌, ◌≤◌, ◌∷◌, ◌++◌};
+ghost use Rattle.std.specs.Prelude.{length, take, drop, replicate, slice_index};
 ghost use Rattle.encoding_kernels.specs.Scans.{BelowUpTo, HasLanes};
 ghost use Rattle.encoding_kernels.specs.Following.{IsValidAt, ValidUpTo};
 ghost use Rattle.std.specs.Str.{IsUtf8};
@@ -216,7 +217,7 @@ fn clean_of_256(src: &[u8], at: usize) -> usize
     TWO_BLOCKS + clean_of_128(src, at + TWO_BLOCKS)
 }
 
-#[tactic(auto, using(crate::proofs::Utf8ValidationLemmas::IsUtf8_before, crate::proofs::Utf8ValidationLemmas::IsUtf8_closed, crate::proofs::Utf8ValidationLemmas::IsClosedAt_tests))]
+#[tactic(auto, using(crate::proofs::Utf8ValidationLemmas::boundaries))]
 fn back(src: &[u8], at: usize) -> usize
     requires { (at ≤ length src.now) × ValidUpTo src.now at }
     ensures { (result ≤ at) × IsUtf8 (take result src.now) }
@@ -366,7 +367,7 @@ pub fn well_formed_short(src: &[u8]) -> usize
 }
 
 /// Ends in the first long run of ASCII after a block, though a longer prefix may be well-formed.
-#[tactic(auto, using(crate::proofs::Utf8ValidationLemmas::IsUtf8_ascii_prefix, crate::proofs::Utf8ValidationLemmas::ValidUpTo_ascii_prefix))]
+#[tactic(auto, using(crate::proofs::Utf8ValidationLemmas::ascii_prefixes))]
 #[inline(always)]
 pub fn well_formed_blocks(src: &[u8], ascii: usize) -> usize
     requires src_length { 64 ≤ length src.now }

@@ -3,13 +3,15 @@
 //! before it, and the lanes that are kept move to the start of the vector. The last stride ends with the text and may
 //! overlap the one before it, so that only the length decides how often the loop iterates.
 
-ghost use Rattle.std.specs.Prelude.{◌≡◌, ◌+◌, ◌-◌, ◌<◌, ◌≤◌, ◌∷◌, length, take, drop, slice_index, ℕ, ◌*◌, ◌/◌, ◌%◌, ◌^◌, false, ◌++◌, replicate, IsTrue, map};
+ghost use Rattle.std.specs.Prelude.{◌≡◌, ◌+◌, ◌-◌, ◌<◌, ◌≤◌, ◌∷◌, length, take, drop, slice_index};
+ghost use Rattle.std.specs.Prelude.{ℕ, ◌*◌, ◌/◌, ◌%◌, ◌^◌, false, ◌++◌, replicate, IsTrue, map};
 ghost use Rattle.std.specs.List.{flat_map};
 ghost use Rattle.std.specs.Char.Escape.{encode_utf16};
 ghost use Rattle.std.specs.Str.{IsUtf8, IsCharBoundary, chars};
 ghost use Rattle.encoding_definitions.specs.Prefixes.{WritesPrefix};
 ghost use Rattle.encoding_kernels.specs.Scans.{BelowUpTo, HasLanes};
-ghost use Rattle.encoding_kernels.specs.EndingUnits.{NoUnitEnds, WritesCompressed, WritesUtf16, units_after, units_in, ends_after, low_bits, unit_at, compressed_places};
+ghost use Rattle.encoding_kernels.specs.EndingUnits.{NoUnitEnds, WritesCompressed, WritesUtf16, units_after};
+ghost use Rattle.encoding_kernels.specs.EndingUnits.{units_in, ends_after, low_bits, unit_at, compressed_places};
 ghost use Rattle.std.specs.Simd.Lanes.{mask_l};
 
 use crate::scalar::{decode_utf8_scalar, sequence_length, write_utf16};

@@ -1,4 +1,5 @@
-use Rattle.encoding_kernels.proofs.Utf16ToUtf8Lemmas.{bmp_more, converts_none, converts_more_from, converts_more_bmp_from, converts_prefix, converts_unchanged, writes_none}
+use Rattle.encoding_kernels.proofs.Utf16ToUtf8Lemmas.{bmp_more, converts_none, converts_more_from, converts_more_bmp_from}
+use Rattle.encoding_kernels.proofs.Utf16ToUtf8Lemmas.{converts_prefix, converts_unchanged, writes_none}
 use Rattle.encoding_kernels.proofs.utf16_to_utf8.text.convert_blocks.Goals as goal
 
 pub loop-read-init : goal.loop-read-init
