@@ -1,10 +1,10 @@
-//! Scans for UTF-16 code units below a bound, and the longest prefix of these.
+//! Scans for UTF-16 code units below a bound.
 
 ghost use Rattle.std.specs.Prelude.{◌≡◌, ◌+◌, ◌<◌, ◌≤◌, ◌↔◌, IsTrue, length, slice_index};
 ghost use Rattle.encoding_kernels.specs.Following.{IsZeroTo};
 ghost use Rattle.encoding_kernels.specs.Scans.{AllBelow, IsRunBelow, BelowUpTo};
 
-use crate::simd::scan::{AllPass, LanePredicate, Test, find, pass_short, reach, run, skip};
+use crate::simd::scan::{AllPass, LanePredicate, Test, pass_short, reach, run};
 use crate::simd::width::{HALF_UNIT_BLOCK, STRIDE, UNIT_STRIDE};
 use std::simd::Simd;
 use std::simd::prelude::*;
@@ -79,20 +79,6 @@ pub fn units_run_len_below<const N: usize>(units: &[u16], at: usize, bound: u16)
     ensures { IsRunBelow bound units.now at N result }
 {
     run::<N, _>(&UnitsBelow { units, bound }, at)
-}
-
-#[inline(always)]
-pub fn units_prefix_len_below(units: &[u16], bound: u16) -> usize
-    ensures within { result ≤ length units.now }
-    ensures below { BelowUpTo bound units.now result }
-    ensures stops { result < length units.now → bound ≤ slice_index units.now result }
-{
-    let test = UnitsBelow { units, bound };
-    match units.len() {
-        ..UNIT_STRIDE => skip::<1, 1, _>(&test, 0, units.len()),
-        ..HALF_UNIT_BLOCK => find::<UNIT_STRIDE, _>(&test, 0, units.len()),
-        _ => find::<HALF_UNIT_BLOCK, _>(&test, 0, units.len()),
-    }
 }
 
 /// By vectors, so it may stop earlier than the first unit that isn't below the bound.
