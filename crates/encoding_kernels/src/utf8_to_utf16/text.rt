@@ -24,10 +24,10 @@ use std::simd::prelude::*;
 const GROUP_OF_TEXT: usize = BLOCK + 24;
 
 /// The length of eight characters of three bytes.
-const TRIPLES: usize = 24;
+const EIGHT_TRIPLES_LENGTH: usize = 24;
 
-/// Their number, and that of their code units.
-const UNITS: usize = 8;
+/// The number of these characters, and of their code units.
+const EIGHT: usize = 8;
 
 /// The bits that show whether a byte begins three, at every third of the first sixteen bytes.
 const LEAD_BITS: [u8; 16] = [
@@ -183,9 +183,9 @@ fn convert_groups(src: &[u8], dst: &mut [u16]) -> (usize, usize)
     while src.len() - read >= GROUP_OF_TEXT {
         let text = &src[read..];
         if begins_triples(text) {
-            write_triples(text, UNITS, &mut dst[written..]);
-            read += TRIPLES;
-            written += UNITS;
+            write_triples(text, EIGHT, &mut dst[written..]);
+            read += EIGHT_TRIPLES_LENGTH;
+            written += EIGHT;
             continue;
         }
         let first = u8x16::from_slice(text);
@@ -221,10 +221,13 @@ pub fn convert_short(src: &[u8], dst: &mut [u16]) -> usize
 {
     let mut read = 0;
     let mut written = 0;
-    while src.len() - read >= TRIPLES && src[read] >= 0xE0 && begins_triples(&src[read..]) {
-        write_triples(&src[read..], UNITS, &mut dst[written..]);
-        read += TRIPLES;
-        written += UNITS;
+    while src.len() - read >= EIGHT_TRIPLES_LENGTH
+        && src[read] >= 0xE0
+        && begins_triples(&src[read..])
+    {
+        write_triples(&src[read..], EIGHT, &mut dst[written..]);
+        read += EIGHT_TRIPLES_LENGTH;
+        written += EIGHT;
     }
     if src.len() - read < STRIDE_AND_BEFORE {
         return written + write_tail(&src[read..], &mut dst[written..]);
