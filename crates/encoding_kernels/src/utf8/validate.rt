@@ -218,7 +218,7 @@ fn clean_of_256(src: &[u8], at: usize) -> usize
 }
 
 #[tactic(auto, using(crate::proofs::Utf8ValidationLemmas::boundaries))]
-fn back(src: &[u8], at: usize) -> usize
+fn to_boundary(src: &[u8], at: usize) -> usize
     requires { (at ≤ length src.now) × ValidUpTo src.now at }
     ensures { (result ≤ at) × IsUtf8 (take result src.now) }
 {
@@ -269,7 +269,7 @@ fn skip_ascii(src: &[u8], from: usize) -> usize
 /// The last 64 bytes may begin before `from`.
 #[tactic(auto, using(crate::proofs::Utf8ValidationLemmas::ValidUpTo_less))]
 #[inline(always)]
-fn finish(src: &[u8], from: usize) -> usize
+fn validate_rest(src: &[u8], from: usize) -> usize
     requires { (64 ≤ from) × (from ≤ length src.now) × ValidUpTo src.now from }
     ensures { (result ≤ length src.now) × ValidUpTo src.now result }
 {
@@ -296,7 +296,7 @@ fn finish(src: &[u8], from: usize) -> usize
 /// ASCII is in them. With fewer than 256 bytes left it isn't tested for: a test that fails would cost more
 /// than it saves there.
 #[inline(never)]
-fn following(src: &[u8], from: usize) -> usize
+fn validate_blocks(src: &[u8], from: usize) -> usize
     requires src_length { 64 ≤ length src.now }
     requires prefix { (from ≤ length src.now) × ValidUpTo src.now from }
     ensures { (result ≤ length src.now) × ValidUpTo src.now result }
@@ -338,7 +338,7 @@ fn following(src: &[u8], from: usize) -> usize
             return at;
         }
     }
-    finish(src, at)
+    validate_rest(src, at)
 }
 
 /// By one vector, or two that may overlap.
@@ -363,7 +363,7 @@ pub fn well_formed_short(src: &[u8]) -> usize
         let block = with_zeros(src).to_array();
         zeros(faults::<0>(&block, 0)).min(src.len())
     };
-    back(src, clean)
+    to_boundary(src, clean)
 }
 
 /// Ends in the first long run of ASCII after a block, though a longer prefix may be well-formed.
@@ -374,5 +374,5 @@ pub fn well_formed_blocks(src: &[u8], ascii: usize) -> usize
     requires ascii { (ascii ≤ length src.now) × BelowUpTo ASCII_END src.now ascii }
     ensures { (result ≤ length src.now) × IsUtf8 (take result src.now) }
 {
-    back(src, following(src, ascii))
+    to_boundary(src, validate_blocks(src, ascii))
 }

@@ -8,8 +8,8 @@ use Rattle.encoding_kernels.proofs.utf8.validate.well_formed_short.Goals.{then-s
 use Rattle.encoding_kernels.proofs.utf8.validate.well_formed_short.Goals.{else-src-ge35+then-src-ge-STRIDE+else-src, else-src-ge35+else-src-ge-STRIDE}
 use Rattle.encoding_kernels.proofs.utf8.validate.well_formed_short.Goals.{then-first-lt-STRIDE, else-first-lt-STRIDE}
 
-pub back-requires : goal.back-requires
-back-requires c =
+pub to_boundary-requires : goal.to_boundary-requires
+to_boundary-requires c =
     let src = c.args.src.now in
     elim c.if-src-ge35.branch [
       | then-src-ge35 w ↦
