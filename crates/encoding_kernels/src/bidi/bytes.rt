@@ -8,7 +8,7 @@ ghost use Rattle.encoding_kernels.specs.RightToLeft.{rtl_mark_lead, may_start_rt
 ghost use Rattle.encoding_kernels.specs.Scans.{HasLanes};
 
 use crate::simd::lookup::twice;
-use crate::simd::scan::{AllPass, Test, is_zero, reach, skip};
+use crate::simd::scan::{AllPass, Test, is_zero, skip, skip_to_end};
 use crate::simd::width::{BLOCK, STRIDE};
 use crate::tuning::{LOW_BYTES, MOST_BYTE_BLOCKS};
 use std::simd::Simd;
@@ -317,5 +317,5 @@ pub fn skip_clear(bytes: &[u8], from: usize) -> usize
     if bytes.len() - at < 2 {
         return at;
     }
-    reach::<STRIDE, STRIDE, _>(&ClearBytes { bytes }, at, bytes.len() - 2)
+    skip_to_end::<STRIDE, STRIDE, _>(&ClearBytes { bytes }, at, bytes.len() - 2)
 }

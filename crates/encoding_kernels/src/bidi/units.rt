@@ -9,7 +9,7 @@ ghost use Rattle.encoding_kernels.specs.RightToLeft.{NoneRightToLeft, in_range, 
 ghost use Rattle.encoding_kernels.specs.Scans.{HasLanes};
 
 use crate::simd::lookup::twice;
-use crate::simd::scan::{AllPass, Test, is_zero, reach, skip};
+use crate::simd::scan::{AllPass, Test, is_zero, skip, skip_to_end};
 use crate::simd::units::UnitsBelow;
 use crate::simd::width::{HALF_UNIT_BLOCK, STRIDE, UNIT_STRIDE};
 use crate::tuning::{LOW_UNITS, MOST_UNIT_BLOCKS};
@@ -295,5 +295,5 @@ pub fn skip_clear_units(units: &[u16], from: usize) -> usize
     }
     // no farther than a block: the ranges rule out some units that the look-ups don't, and the text goes on after them
     let end = at + HALF_UNIT_BLOCK.min(units.len() - at);
-    reach::<UNIT_STRIDE, UNIT_STRIDE, _>(&ClearUnits { units }, at, end)
+    skip_to_end::<UNIT_STRIDE, UNIT_STRIDE, _>(&ClearUnits { units }, at, end)
 }

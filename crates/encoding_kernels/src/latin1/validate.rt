@@ -5,7 +5,7 @@ ghost use Rattle.std.specs.Prelude.{◌≡◌, false, ◌+◌, ◌-◌, ◌<◌,
 ghost use Rattle.encoding_definitions.specs.Latin1.{IsUtf8Latin1};
 ghost use Rattle.encoding_kernels.specs.Neighbors.{FitLatin1, latin1_fault};
 
-use crate::simd::scan::{AllPass, Test, reach, skip};
+use crate::simd::scan::{AllPass, Test, skip, skip_to_end};
 use crate::simd::width::{BLOCK, STRIDE};
 use std::simd::Simd;
 use std::simd::prelude::*;
@@ -64,6 +64,6 @@ pub fn latin1_blocks(bytes: &[u8], from: usize) -> usize
 {
     let test = BytePairs { bytes };
     let by_blocks = skip::<BLOCK, BLOCK, _>(&test, from - 1, bytes.len() - 1);
-    let last = reach::<STRIDE, STRIDE, _>(&test, by_blocks, bytes.len() - 1);
+    let last = skip_to_end::<STRIDE, STRIDE, _>(&test, by_blocks, bytes.len() - 1);
     before_cut_character(bytes, last + 1)
 }

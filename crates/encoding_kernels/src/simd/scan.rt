@@ -47,7 +47,7 @@ pub(crate) fn run_before<const N: usize>(failing: u64) -> usize
 }
 
 #[inline(always)]
-pub(crate) fn run<const N: usize, T: LanePredicate<N>>(test: &T, at: usize) -> usize
+pub(crate) fn run_length<const N: usize, T: LanePredicate<N>>(test: &T, at: usize) -> usize
     requires { (at + N ≤ T.count test.now) × (0 < N) × (N ≤ 64) }
     ensures { IsPassRun (T.passes test.now) at N result }
 {
@@ -78,7 +78,7 @@ pub(crate) fn skip<const N: usize, const W: usize, T: AllPass<N, W>>(
 
 /// The last W indices may overlap the ones before.
 #[inline(always)]
-pub(crate) fn reach<const N: usize, const W: usize, T: AllPass<N, W>>(
+pub(crate) fn skip_to_end<const N: usize, const W: usize, T: AllPass<N, W>>(
     test: &T,
     from: usize,
     end: usize,
@@ -100,7 +100,7 @@ pub(crate) fn reach<const N: usize, const W: usize, T: AllPass<N, W>>(
 
 /// The last N indices may overlap the ones before.
 #[inline(always)]
-pub(crate) fn find<const N: usize, T: LanePredicate<N> + AllPass<N, N>>(
+pub(crate) fn first_failing<const N: usize, T: LanePredicate<N> + AllPass<N, N>>(
     test: &T,
     from: usize,
     end: usize,
@@ -117,7 +117,7 @@ pub(crate) fn find<const N: usize, T: LanePredicate<N> + AllPass<N, N>>(
         return at;
     }
     let place = at.min(end - N);
-    place + run::<N, T>(test, place)
+    place + run_length::<N, T>(test, place)
 }
 
 #[inline(always)]
@@ -261,7 +261,7 @@ pub fn run_len_below<const N: usize>(bytes: &[u8], at: usize, bound: u8) -> usiz
     requires { (at + N ≤ length bytes.now) × (0 < N) × (N ≤ 64) }
     ensures { IsRunBelow bound bytes.now at N result }
 {
-    run::<N, _>(&BytesBelow { bytes, bound }, at)
+    run_length::<N, _>(&BytesBelow { bytes, bound }, at)
 }
 
 /// Both of two vectors, which may overlap, are tested, so that no branch depends on the bytes.
@@ -291,7 +291,7 @@ pub fn prefix_len_below(bytes: &[u8], bound: u8) -> usize
         return prefix_after_stride(bytes, bound);
     }
     if bytes.len() >= HALF_STRIDE {
-        return find::<HALF_STRIDE, _>(&BytesBelow { bytes, bound }, 0, bytes.len());
+        return first_failing::<HALF_STRIDE, _>(&BytesBelow { bytes, bound }, 0, bytes.len());
     }
     let mut at = 0;
     while at < bytes.len() && bytes[at] < bound {
@@ -309,10 +309,10 @@ pub fn prefix_after_stride(bytes: &[u8], bound: u8) -> usize
 {
     let test = BytesBelow { bytes, bound };
     if bytes.len() < BLOCK {
-        return find::<STRIDE, _>(&test, STRIDE, bytes.len());
+        return first_failing::<STRIDE, _>(&test, STRIDE, bytes.len());
     }
     let by_blocks = skip::<HALF_BLOCK, FOUR_BLOCKS, _>(&test, 0, bytes.len());
-    find::<BLOCK, _>(&test, by_blocks, bytes.len())
+    first_failing::<BLOCK, _>(&test, by_blocks, bytes.len())
 }
 
 /// By words of 64 bits: ARM has no instruction for the mask of a vector.

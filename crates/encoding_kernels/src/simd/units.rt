@@ -4,7 +4,7 @@ ghost use Rattle.std.specs.Prelude.{◌≡◌, ◌+◌, ◌<◌, ◌≤◌, ◌�
 ghost use Rattle.encoding_kernels.specs.Following.{IsZeroTo};
 ghost use Rattle.encoding_kernels.specs.Scans.{AllBelow, IsRunBelow, BelowUpTo};
 
-use crate::simd::scan::{AllPass, LanePredicate, Test, pass_short, reach, run};
+use crate::simd::scan::{AllPass, LanePredicate, Test, pass_short, run_length, skip_to_end};
 use crate::simd::width::{HALF_UNIT_BLOCK, STRIDE, UNIT_STRIDE};
 use std::simd::Simd;
 use std::simd::prelude::*;
@@ -78,7 +78,7 @@ pub fn units_run_len_below<const N: usize>(units: &[u16], at: usize, bound: u16)
     requires { (at + N ≤ length units.now) × (0 < N) × (N ≤ 64) }
     ensures { IsRunBelow bound units.now at N result }
 {
-    run::<N, _>(&UnitsBelow { units, bound }, at)
+    run_length::<N, _>(&UnitsBelow { units, bound }, at)
 }
 
 /// By vectors, so it may stop earlier than the first unit that isn't below the bound.
@@ -92,7 +92,7 @@ pub fn skip_units_below(units: &[u16], bound: u16) -> usize
     match units.len() {
         ..UNIT_STRIDE if pass_short::<UNIT_STRIDE, _>(&test, units.len()) => units.len(),
         ..UNIT_STRIDE => 0,
-        ..HALF_UNIT_BLOCK => reach::<UNIT_STRIDE, UNIT_STRIDE, _>(&test, 0, units.len()),
-        _ => reach::<STRIDE, HALF_UNIT_BLOCK, _>(&test, 0, units.len()),
+        ..HALF_UNIT_BLOCK => skip_to_end::<UNIT_STRIDE, UNIT_STRIDE, _>(&test, 0, units.len()),
+        _ => skip_to_end::<STRIDE, HALF_UNIT_BLOCK, _>(&test, 0, units.len()),
     }
 }

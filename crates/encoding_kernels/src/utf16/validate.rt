@@ -7,7 +7,7 @@ ghost use Rattle.encoding_kernels.specs.Neighbors.{PairUp, HaveNoSurrogate, pair
 ghost use Rattle.encoding_definitions.specs.Surrogates.{IsValidUtf16};
 
 use crate::scalar::{is_high_surrogate, is_low_surrogate};
-use crate::simd::scan::{LanePredicate, Test, run};
+use crate::simd::scan::{LanePredicate, Test, run_length};
 use crate::simd::width::{HALF_STRIDE, STRIDE};
 use std::simd::Simd;
 use std::simd::prelude::*;
@@ -84,16 +84,16 @@ pub fn paired_run(units: &[u16], at: usize) -> usize
 {
     let test = UnitPairs { units };
     if at > 0 {
-        return run::<STRIDE, _>(&test, at - 1);
+        return run_length::<STRIDE, _>(&test, at - 1);
     }
     if is_low_surrogate(units[0]) {
         return 0;
     }
-    let first = run::<HALF_STRIDE, _>(&test, 0);
+    let first = run_length::<HALF_STRIDE, _>(&test, 0);
     if first < HALF_STRIDE {
         return first + 1;
     }
-    HALF_STRIDE + run::<HALF_STRIDE, _>(&test, HALF_STRIDE - 1)
+    HALF_STRIDE + run_length::<HALF_STRIDE, _>(&test, HALF_STRIDE - 1)
 }
 
 #[tactic(auto, using(crate::proofs::PairsLemmas::cut_pairs))]
