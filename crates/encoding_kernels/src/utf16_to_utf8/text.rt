@@ -18,7 +18,7 @@ use std::simd::prelude::*;
 
 /// Also stops if many blocks in a row are ASCII or have three bytes for each unit.
 #[inline(always)]
-fn convert_any_blocks<S: CodeUnits, const RESTORES: bool>(
+fn by_kinds<S: CodeUnits, const RESTORES: bool>(
     src: S,
     dst: &mut [u8],
     due: usize,
@@ -92,7 +92,7 @@ fn convert_three_byte_blocks<S: CodeUnits>(
 
 /// Also stops if many blocks in a row are ASCII.
 #[inline(always)]
-fn convert_due_blocks<S: CodeUnits, const RESTORES: bool>(
+fn with_three_byte_runs<S: CodeUnits, const RESTORES: bool>(
     src: S,
     dst: &mut [u8],
 ) -> (usize, usize, usize)
@@ -105,7 +105,7 @@ fn convert_due_blocks<S: CodeUnits, const RESTORES: bool>(
     let mut written = 0;
     let mut spilled = 0;
     while src.count() - read >= STRIDE + SPILL {
-        let (units, bytes, left) = convert_any_blocks::<S, RESTORES>(
+        let (units, bytes, left) = by_kinds::<S, RESTORES>(
             src.skip(read),
             &mut dst[written..],
             spilled,
@@ -133,16 +133,13 @@ fn convert_due_blocks<S: CodeUnits, const RESTORES: bool>(
 
 /// Also converts what overwrites the spill of the last block.
 #[inline(always)]
-fn convert_dense_blocks<S: CodeUnits, const RESTORES: bool>(
-    src: S,
-    dst: &mut [u8],
-) -> (usize, usize)
+fn settled<S: CodeUnits, const RESTORES: bool>(src: S, dst: &mut [u8]) -> (usize, usize)
     ensures converted { ConvertsPrefix (S.units src) dst.old dst.new result.0 result.1 }
     ensures restored { IsTrue RESTORES
         → WritesBmp (S.units src) dst.old dst.new result.0 result.1 }
 {
     let end = src.count().min(dst.len() / 3);
-    let (read, written, spilled) = convert_due_blocks::<S, RESTORES>(src.first(end), dst);
+    let (read, written, spilled) = with_three_byte_runs::<S, RESTORES>(src.first(end), dst);
     if spilled == 0 {
         return (read, written);
     }
@@ -170,10 +167,7 @@ pub fn convert_blocks<S: CodeUnits, const RESTORES: bool>(src: S, dst: &mut [u8]
     let mut read = 0;
     let mut written = 0;
     while src.count() - read >= HALF_STRIDE && begins_block(src.unit_at(read), src.count() - read) {
-        let (dense, many) = convert_dense_blocks::<S, RESTORES>(
-            src.skip(read),
-            &mut dst[written..],
-        );
+        let (dense, many) = settled::<S, RESTORES>(src.skip(read), &mut dst[written..]);
         read += dense;
         written += many;
         if read == src.count() || !begins_block(src.unit_at(read), src.count() - read) {
