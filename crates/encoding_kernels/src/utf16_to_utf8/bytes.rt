@@ -74,7 +74,7 @@ fn convert_blocks_and_pairs<const BIG: bool>(
 
 /// How many characters to convert one at a time before trying blocks: all if fewer than eight units are left.
 #[inline(always)]
-fn single_characters(left: usize, others: usize) -> usize
+fn characters_before_retry(left: usize, others: usize) -> usize
     ensures { 0 < others → 0 < result }
 {
     if left < HALF_STRIDE {
@@ -97,7 +97,7 @@ pub fn convert_up_to_unpaired<const BIG: bool>(
 {
     let mut read = 0;
     let mut written = 0;
-    let mut singles = single_characters(src.count(), 0);
+    let mut singles = characters_before_retry(src.count(), 0);
     while read < src.count() {
         if singles == 0 {
             let (units, bytes, goes_on) = convert_blocks_and_pairs(
@@ -113,7 +113,7 @@ pub fn convert_up_to_unpaired<const BIG: bool>(
                 } else {
                     1
                 };
-                singles = single_characters(src.count() - read, others);
+                singles = characters_before_retry(src.count() - read, others);
             }
         } else {
             let Some(scalar) = character_at(src, read) else {
