@@ -6,7 +6,7 @@ ghost use Rattle.std.specs.Simd.Lanes.{mask_l};
 ghost use Rattle.encoding_kernels.specs.KeptBytes.{kept_places, unit_places};
 ghost use Rattle.encoding_kernels.specs.Utf8Output.{Spills};
 
-use crate::simd::width::LANES;
+use crate::simd::width::LANE_INDICES;
 use std::simd::prelude::*;
 
 /// Builds the table pair by pair, last pair first. Each row lists the index of the pair's first byte, or those of both
@@ -91,7 +91,7 @@ pub(crate) fn write_both(
     let next = at + count;
     let following = u8x16::from_slice(&dst[next..]);
     first.copy_to_slice(&mut dst[at..]);
-    let is_kept = u8x16::from_array(LANES).simd_lt(u8x16::splat(more as u8));
+    let is_kept = u8x16::from_array(LANE_INDICES).simd_lt(u8x16::splat(more as u8));
     is_kept
         .select(second, following)
         .copy_to_slice(&mut dst[next..]);

@@ -9,7 +9,7 @@ ghost use Rattle.encoding_kernels.specs.Scans.{AllBelow, HasLanes, PassBetween};
 
 use crate::simd::scan::{AllPass, BytesBelow, Test, pass_by_two, pass_few};
 use crate::simd::units::UnitsBelow;
-use crate::simd::width::{BLOCK, HALF_BLOCK, HALF_STRIDE, LANES, QUARTER_STRIDE, STRIDE};
+use crate::simd::width::{BLOCK, HALF_BLOCK, HALF_STRIDE, LANE_INDICES, QUARTER_STRIDE, STRIDE};
 use crate::tuning::LONGEST_VECTOR_COPY;
 use std::simd::Simd;
 use std::simd::prelude::*;
@@ -122,7 +122,7 @@ pub fn write_first(dst: &mut [u8], at: usize, bytes: u8x16, count: usize)
     ensures { dst.new ≡ take at dst.old ++ (take count bytes ++ drop (at + count) dst.old) }
 {
     let following = u8x16::from_slice(&dst[at..]);
-    let is_kept = u8x16::from_array(LANES).simd_lt(u8x16::splat(count as u8));
+    let is_kept = u8x16::from_array(LANE_INDICES).simd_lt(u8x16::splat(count as u8));
     is_kept
         .select(bytes, following)
         .copy_to_slice(&mut dst[at..]);
@@ -171,7 +171,7 @@ pub fn unpack_first(src: &[u8], dst: &mut [u16], at: usize, count: usize)
     }
     let units = u8x16::from_slice(src).cast::<u16>();
     let following = u16x16::from_slice(&dst[at..]);
-    let is_kept = u8x16::from_array(LANES)
+    let is_kept = u8x16::from_array(LANE_INDICES)
         .cast::<u16>()
         .simd_lt(u16x16::splat(count as u16));
     is_kept

@@ -9,6 +9,9 @@ ghost use Rattle.encoding_kernels.specs.Lengths.{sum_over_suffixes};
 use std::simd::Simd;
 use std::simd::prelude::*;
 
+/// The number of lanes of a vector of terms, if the text has that many.
+pub(crate) const LANES: usize = 32;
+
 /// Bounds of the lanes of a vector whose last ones count, read from an index on: the greatest term there, else zero.
 const BOUNDS: [u8; 128] = [
     0, 0, 0, 0, 0, 0, 0, 0, 0, 0, 0, 0, 0, 0, 0, 0, 0, 0, 0, 0, 0, 0, 0, 0, 0, 0, 0, 0, 0, 0, 0, 0,

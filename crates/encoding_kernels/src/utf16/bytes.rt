@@ -10,7 +10,7 @@ ghost use Rattle.encoding_kernels.specs.UnitBytes.{bytes_in, units_of};
 
 use crate::simd::copy::{pack, pack_first};
 use crate::simd::units::units_run_len_below;
-use crate::simd::width::{BASIC_LATIN_END, HALF_STRIDE, LANES, STRIDE, UNIT_BLOCK};
+use crate::simd::width::{BASIC_LATIN_END, HALF_STRIDE, LANE_INDICES, STRIDE, UNIT_BLOCK};
 use crate::utf16_to_utf8::two_byte::are_ascii;
 use std::simd::prelude::*;
 
@@ -94,7 +94,7 @@ pub(super) fn joined_eights(first: u16x8, last: u16x8, count: usize) -> u16x16
     ensures lanes { take count result ≡ first ++ drop (16 - count) last }
 {
     let overlap = u8x16::splat((2 * (STRIDE - count)) as u8);
-    let places = (u8x16::from_array(LANES) + overlap) & u8x16::splat(15);
+    let places = (u8x16::from_array(LANE_INDICES) + overlap) & u8x16::splat(15);
     let following = u16x8::from_le_bytes(last.to_le_bytes().swizzle_dyn(places));
     first.shuffle(
         following,

@@ -5,15 +5,12 @@ ghost use Rattle.encoding_kernels.specs.Scans.{BelowUpTo, HasLanes};
 ghost use Rattle.encoding_kernels.specs.Lengths.{extra_bytes, extra_bytes_by, extra_bytes_few, fewer};
 
 use crate::simd::scan::{pass_short, skip};
-use crate::simd::sum::{Terms, sum_from};
+use crate::simd::sum::{LANES, Terms, sum_from};
 use crate::simd::units::UnitsBelow;
 use crate::simd::width::{BASIC_LATIN_END, HALF_UNIT_BLOCK, STRIDE, UNIT_BLOCK, UNIT_STRIDE};
 use crate::tuning::UTF16_LENGTH_SPAN;
 use std::simd::Simd;
 use std::simd::prelude::*;
-
-/// The number of lanes.
-const LANES: usize = 32;
 
 /// Without a branch. The first unit of a pair has none, and the second two.
 #[inline(always)]

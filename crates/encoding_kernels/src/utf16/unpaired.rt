@@ -10,16 +10,13 @@ ghost use mir.Val.{bool_byte};
 
 use crate::scalar::is_low_surrogate;
 use crate::simd::scan::skip;
-use crate::simd::sum::{Terms, sum_from};
+use crate::simd::sum::{LANES, Terms, sum_from};
 use crate::simd::units::UnitsBelow;
 use crate::simd::width::{HALF_UNIT_BLOCK, STRIDE, UNIT_STRIDE};
 use crate::tuning::UTF16_LENGTH_SPAN;
 use crate::utf16::length::unit_at;
 use std::simd::Simd;
 use std::simd::prelude::*;
-
-/// The number of lanes.
-const LANES: usize = 32;
 
 /// The least surrogate.
 const FIRST_SURROGATE: u16 = 0xD800;

@@ -7,15 +7,12 @@ ghost use Rattle.encoding_kernels.specs.Counts.{is_four_bytes, begins_four_bytes
 ghost use mir.Val.{bool_byte};
 
 use crate::simd::scan::{BytesBelow, prefix_len_below, skip};
-use crate::simd::sum::{Terms, sum_from};
+use crate::simd::sum::{LANES, Terms, sum_from};
 use crate::simd::width::{BLOCK, HALF_BLOCK, HALF_STRIDE};
 use crate::tuning::UTF8_LENGTH_SPAN;
 use crate::utf8::length::{byte_at, joins, utf16_length_of_utf8};
 use std::simd::Simd;
 use std::simd::prelude::*;
-
-/// The number of lanes.
-const LANES: usize = 32;
 
 /// The least byte that begins a character of four bytes.
 const FOUR_BYTE_LEAD: u8 = 0xF0;

@@ -6,14 +6,11 @@ ghost use Rattle.encoding_kernels.specs.Lengths.{sum_over_suffixes, goes_second,
 ghost use Rattle.encoding_kernels.specs.Lengths.{continuations_by, continuations_few, fewer};
 
 use crate::simd::scan::{BytesBelow, pass_short, prefix_len_below, skip};
-use crate::simd::sum::{Terms, sum_from};
+use crate::simd::sum::{LANES, Terms, sum_from};
 use crate::simd::width::{ASCII_END, BLOCK, HALF_BLOCK, HALF_STRIDE};
 use crate::tuning::UTF8_LENGTH_SPAN;
 use std::simd::Simd;
 use std::simd::prelude::*;
-
-/// The number of lanes.
-const LANES: usize = 32;
 
 /// Without a branch.
 #[inline(always)]

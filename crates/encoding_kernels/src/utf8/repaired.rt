@@ -5,16 +5,13 @@ ghost use Rattle.encoding_kernels.specs.Scans.{HasLanes};
 ghost use Rattle.encoding_kernels.specs.Lengths.{sum_over_suffixes, fewer};
 ghost use Rattle.encoding_kernels.specs.RepairedLengths.{bytes_below_three, bytes_below_three_by, below_three_few};
 
-use crate::simd::sum::{Terms, sum_from};
+use crate::simd::sum::{LANES, Terms, sum_from};
 use crate::simd::width::{ASCII_END, HALF_STRIDE};
 use crate::tuning::UTF8_LENGTH_SPAN;
 use crate::utf8::count::{count_four_bytes, parts_of_utf8};
 use crate::utf8::length::byte_at;
 use std::simd::Simd;
 use std::simd::prelude::*;
-
-/// The number of lanes.
-const LANES: usize = 32;
 
 /// Without a branch.
 #[inline(always)]

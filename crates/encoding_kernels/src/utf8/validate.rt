@@ -9,7 +9,9 @@ ghost use Rattle.encoding_kernels.specs.Following.{IsValidAt, ValidUpTo};
 ghost use Rattle.std.specs.Str.{IsUtf8};
 
 use crate::simd::scan::{AllPass, BytesBelow, skip, zeros};
-use crate::simd::width::{ASCII_END, BLOCK, FOUR_BLOCKS, HALF_BLOCK, LANES, STRIDE, TWO_BLOCKS};
+use crate::simd::width::{
+    ASCII_END, BLOCK, FOUR_BLOCKS, HALF_BLOCK, LANE_INDICES, STRIDE, TWO_BLOCKS,
+};
 use crate::tuning::MOST_SKIPPED;
 use crate::utf8::lookups::{BYTE_1_HIGH, BYTE_1_LOW, BYTE_2_HIGH};
 use std::simd::prelude::*;
@@ -32,7 +34,7 @@ pub(crate) fn with_zeros(src: &[u8]) -> u8x16
     requires { (8 ≤ length src.now) × (length src.now ≤ 16) }
     ensures { result ≡ src.now ++ drop (length src.now) (replicate 16 0) }
 {
-    let lanes = u8x16::from_array(LANES);
+    let lanes = u8x16::from_array(LANE_INDICES);
     let count = u8x16::splat(src.len() as u8);
     let both = first_and_last_eight(src);
     let following = (lanes + (u8x16::splat(16) - count)) & u8x16::splat(15);

@@ -27,7 +27,7 @@ pub(super) const FOUR_BYTES: u8 = 0xF0;
 pub(super) const STRIDE_AND_BEFORE: usize = STRIDE + 3;
 
 /// The indices of the lanes of a vector.
-const LANES: [u16; 8] = [0, 1, 2, 3, 4, 5, 6, 7];
+const LANE_INDICES: [u16; 8] = [0, 1, 2, 3, 4, 5, 6, 7];
 
 #[inline(always)]
 pub(super) fn is_below(block: u8x16, bound: u8) -> bool
@@ -198,7 +198,7 @@ pub(super) fn write_stride<
     if ROOM >= STRIDE || dst.len() >= STRIDE {
         let following = u16x8::from_slice(&dst[count..]);
         first.copy_to_slice(dst);
-        let is_kept = u16x8::from_array(LANES).simd_lt(u16x8::splat(more as u16));
+        let is_kept = u16x8::from_array(LANE_INDICES).simd_lt(u16x8::splat(more as u16));
         is_kept
             .select(last, following)
             .copy_to_slice(&mut dst[count..]);
