@@ -13,7 +13,7 @@ use crate::utf16::bytes::copy_ascii_units;
 use crate::utf16::source::{CodeUnits, UnitBytes};
 
 #[inline(always)]
-fn copy_ascii<const BIG: bool>(src: UnitBytes<'_, BIG>, dst: &mut [u8]) -> usize
+fn copy_ascii_prefix<const BIG: bool>(src: UnitBytes<'_, BIG>, dst: &mut [u8]) -> usize
     ensures { WritesBmp (units_of BIG (bytes_in src.entry.pairs.now)) dst.old dst.new
         result result }
 {
@@ -38,7 +38,7 @@ fn convert_ascii_and_blocks<const BIG: bool>(
     let mut read = 0;
     let mut written = 0;
     loop {
-        let ascii = copy_ascii(src.skip(read), &mut dst[written..]);
+        let ascii = copy_ascii_prefix(src.skip(read), &mut dst[written..]);
         read += ascii;
         written += ascii;
         if read == count {
