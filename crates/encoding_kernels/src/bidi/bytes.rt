@@ -7,7 +7,7 @@ ghost use Rattle.encoding_kernels.specs.RightToLeft.{RtlAt, NoRtlIn, rtl_second_
 ghost use Rattle.encoding_kernels.specs.RightToLeft.{rtl_mark_lead, may_start_rtl, HasNoRtlAt};
 ghost use Rattle.encoding_kernels.specs.Scans.{HasLanes};
 
-use crate::simd::lookup::twice;
+use crate::simd::lookup::table;
 use crate::simd::scan::{AllPass, Test, is_zero, skip, skip_to_end};
 use crate::simd::width::{BLOCK, STRIDE};
 use crate::tuning::{LOW_BYTES, MOST_BYTE_BLOCKS};
@@ -52,7 +52,7 @@ const ANY_THIRD: u8 = TWO_BYTES | FROM_0800 | FORMS_FB00 | FORMS_FC00;
 const ANY_THIRD_LOW: u8 = ANY_THIRD | FOUR_BYTES;
 
 /// The groups that the high nibble of the first byte leaves possible.
-const FIRST_HIGH: [u8; 32] = twice![
+const FIRST_HIGH: [u8; 32] = table![nibbles
     0,
     0,
     0,
@@ -72,7 +72,7 @@ const FIRST_HIGH: [u8; 32] = twice![
 ];
 
 /// The groups that the low nibble of the first byte leaves possible.
-const FIRST_LOW: [u8; 32] = twice![
+const FIRST_LOW: [u8; 32] = table![nibbles
     FROM_0800 | FOUR_BYTES,
     0,
     MARK | EMBEDDINGS | ISOLATE,
@@ -92,7 +92,7 @@ const FIRST_LOW: [u8; 32] = twice![
 ];
 
 /// The groups that the high nibble of the second byte leaves possible.
-const SECOND_HIGH: [u8; 32] = twice![
+const SECOND_HIGH: [u8; 32] = table![nibbles
     TWO_BYTES,
     TWO_BYTES,
     TWO_BYTES,
@@ -112,7 +112,7 @@ const SECOND_HIGH: [u8; 32] = twice![
 ];
 
 /// The groups that the low nibble of the second byte leaves possible.
-const SECOND_LOW: [u8; 32] = twice![
+const SECOND_LOW: [u8; 32] = table![nibbles
     TWO_BYTES | FROM_0800 | MARK | EMBEDDINGS | FORMS_FC00 | FOUR_BYTES,
     TWO_BYTES | FROM_0800 | ISOLATE | FORMS_FC00,
     TWO_BYTES | FROM_0800 | FORMS_FC00,
@@ -132,7 +132,7 @@ const SECOND_LOW: [u8; 32] = twice![
 ];
 
 /// The groups that the high nibble of the third byte leaves possible.
-const THIRD_HIGH: [u8; 32] = twice![
+const THIRD_HIGH: [u8; 32] = table![nibbles
     ANY_THIRD,
     ANY_THIRD,
     ANY_THIRD,
@@ -152,7 +152,7 @@ const THIRD_HIGH: [u8; 32] = twice![
 ];
 
 /// The groups that the low nibble of the third byte leaves possible.
-const THIRD_LOW: [u8; 32] = twice![
+const THIRD_LOW: [u8; 32] = table![nibbles
     ANY_THIRD_LOW,
     ANY_THIRD_LOW,
     ANY_THIRD_LOW,

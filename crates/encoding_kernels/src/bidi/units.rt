@@ -8,7 +8,7 @@ ghost use Rattle.encoding_definitions.specs.Bidi.{IsRightToLeftUnit};
 ghost use Rattle.encoding_kernels.specs.RightToLeft.{NoneRightToLeft, in_range, may_be_right_to_left};
 ghost use Rattle.encoding_kernels.specs.Scans.{HasLanes};
 
-use crate::simd::lookup::twice;
+use crate::simd::lookup::table;
 use crate::simd::scan::{AllPass, Test, is_zero, skip, skip_to_end};
 use crate::simd::units::UnitsBelow;
 use crate::simd::width::{HALF_UNIT_BLOCK, STRIDE, UNIT_STRIDE};
@@ -54,7 +54,7 @@ const ANY_THIRD: u8 = ARABIC | FORMS;
 const ANY_FOURTH: u8 = HEBREW | ARABIC | FORMS | FIRST_FORMS;
 
 /// The groups that the first nibble leaves possible.
-const FIRST: [u8; 32] = twice![
+const FIRST: [u8; 32] = table![nibbles
     HEBREW | ARABIC,
     0,
     MARK | EMBEDDINGS | ISOLATE,
@@ -74,7 +74,7 @@ const FIRST: [u8; 32] = twice![
 ];
 
 /// The groups that the second nibble leaves possible.
-const SECOND: [u8; 32] = twice![
+const SECOND: [u8; 32] = table![nibbles
     MARK | EMBEDDINGS | ISOLATE,
     0,
     0,
@@ -94,7 +94,7 @@ const SECOND: [u8; 32] = twice![
 ];
 
 /// The groups that the third nibble leaves possible.
-const THIRD: [u8; 32] = twice![
+const THIRD: [u8; 32] = table![nibbles
     ARABIC | MARK | HIGH_SURROGATES | FIRST_FORMS,
     ANY_THIRD,
     ANY_THIRD | EMBEDDINGS,
@@ -114,7 +114,7 @@ const THIRD: [u8; 32] = twice![
 ];
 
 /// The groups that the fourth nibble leaves possible.
-const FOURTH: [u8; 32] = twice![
+const FOURTH: [u8; 32] = table![nibbles
     ANY_FOURTH,
     ANY_FOURTH,
     ANY_FOURTH | HIGH_SURROGATES,

@@ -6,31 +6,14 @@ ghost use Rattle.std.specs.Simd.Lanes.{mask_l};
 ghost use Rattle.encoding_kernels.specs.KeptBytes.{kept_places, unit_places};
 ghost use Rattle.encoding_kernels.specs.Utf8Output.{Spills};
 
+use crate::simd::lookup::table;
 use crate::simd::width::LANE_INDICES;
 use std::simd::prelude::*;
 
-/// Builds the table pair by pair, last pair first. Each row lists the index of the pair's first byte, or those of both
-/// bytes, by its bit, followed by those of later pairs. A row has four words.
-macro_rules! pair_rows {
-    ([] $($row:expr),*) => {
-        [$(
-            ($row & 0xFFFF_FFFF) as u32,
-            ($row >> 32 & 0xFFFF_FFFF) as u32,
-            ($row >> 64 & 0xFFFF_FFFF) as u32,
-            ($row >> 96) as u32
-        ),*]
-    };
-    ([$first:literal $($before:literal)*] $($row:expr),*) => {
-        pair_rows!([$($before)*] $(
-            $row << 8 | $first,
-            $row << 16 | $first + 1 << 8 | $first
-        ),*)
-    };
-}
-
 /// For each mask of eight pairs of bytes, the indices of the bytes that are kept: the first of each pair, and the
 /// second if its bit is set. Zeros follow.
-const PLACES: [u32; 1024] = pair_rows!([14u128 12u128 10u128 8u128 6u128 4u128 2u128 0u128] 0u128);
+const PLACES: [u32; 1024] =
+    table!(pairs [14u128 12u128 10u128 8u128 6u128 4u128 2u128 0u128] 0u128);
 
 #[inline(always)]
 fn places_word(at: usize) -> u32
@@ -115,33 +98,10 @@ pub(crate) fn store_two(
     second.copy_to_slice(&mut dst[at + count..]);
 }
 
-/// Builds the table lane by lane, last lane first. Each row lists the indices of the lane's UTF-8 by its two bits. If
-/// neither is set, these are the third, last and second byte, and if only the second is, the last and the second.
-/// Otherwise it is the first one. Those of later lanes follow. A row has three words of indices and one with their
-/// number.
-macro_rules! unit_rows {
-    ([] $($row:expr, $length:expr);*) => {
-        [$(
-            ($row & 0xFFFF_FFFF) as u32,
-            ($row >> 32 & 0xFFFF_FFFF) as u32,
-            ($row >> 64) as u32,
-            $length
-        ),*]
-    };
-    ([$first:literal $($before:literal)*] $($row:expr, $length:expr);*) => {
-        unit_rows!([$($before)*] $(
-            $row << 24 | $first + 1 << 16 | $first + 3 << 8 | $first + 2, $length + 3;
-            $row << 8 | $first, $length + 1;
-            $row << 16 | $first + 1 << 8 | $first + 3, $length + 2;
-            $row << 8 | $first, $length + 1
-        );*)
-    };
-}
-
 /// For each mask of four lanes, the indices of the bytes that are kept: of a lane the first one if the first of its
 /// bits is set, else the last and the second if the second is, else the third, the last and the second. Zeros follow,
 /// and in the fourth word the number of the indices.
-const UNIT_PLACES: [u32; 1024] = unit_rows!([12u128 8u128 4u128 0u128] 0u128, 0u32);
+const UNIT_PLACES: [u32; 1024] = table!(units [12u128 8u128 4u128 0u128] 0u128, 0u32);
 
 #[inline(always)]
 fn unit_places_word(at: usize) -> u32

@@ -16,6 +16,7 @@ ghost use Rattle.std.specs.Simd.Lanes.{mask_l};
 
 use crate::scalar::{decode_utf8_scalar, sequence_length, write_utf16};
 use crate::simd::copy::join_bytes;
+use crate::simd::lookup::table;
 use crate::simd::width::{HALF_STRIDE, STRIDE};
 use crate::utf8::validate::{bytes_before, with_zeros};
 use std::simd::prelude::*;
@@ -129,26 +130,9 @@ fn ends_of_stride(src: &[u8], at: usize, one: u8x16, from: usize, to: usize) -> 
     (mask & ((1 << to) - 1)) >> from << from
 }
 
-/// Builds the table lane by lane, last lane first. Each row of later kept lanes yields two: the row itself, and the
-/// indices of the lane's two bytes followed by it. A row has two words.
-macro_rules! rows {
-    ([] $($row:expr),*) => {
-        [$(
-            ($row & 0xFFFF_FFFF_FFFF_FFFF) as u64,
-            ($row >> 64) as u64
-        ),*]
-    };
-    ([$last:literal $($before:literal)*] $($row:expr),*) => {
-        rows!([$($before)*] $(
-            $row,
-            ($row & 0xFFFF_FFFF_FFFF_FFFF_FFFF_FFFF_FFFF) << 16 | $last
-        ),*)
-    };
-}
-
 /// For each mask of eight lanes, the indices of the two bytes of each lane that is kept, in order. Those of the first
 /// lane follow.
-const COMPRESSED: [u64; 512] = rows!(
+const COMPRESSED: [u64; 512] = table!(lanes
     [0x0F0Eu128 0x0D0Cu128 0x0B0Au128 0x0908u128 0x0706u128 0x0504u128 0x0302u128 0x0100u128]
     0x0100_0100_0100_0100_0100_0100_0100_0100u128
 );
