@@ -1,5 +1,5 @@
-"""Prints the table of instructions on 64-bit ARM in docs/PERFORMANCE.md from bench/instructions-aarch64.tsv, or writes it there:
-python3 table.py [--write]. A dash means that the call ends at the first bytes."""
+"""Prints the table of instructions on 64-bit ARM in docs/PERFORMANCE.md from what bench/instructions prints, or writes it there:
+CPU=aarch64 bench/instructions 4096 | python3 bench/arm/table.py [--write]. A dash means that the call ends at the first bytes."""
 import pathlib
 import sys
 
@@ -14,7 +14,7 @@ ROWS = ["is_ascii", "utf8_valid_up_to", "convert_utf8_to_utf16", "convert_utf16_
 
 def table():
     """Returns the lines of the table."""
-    lines = (BENCH / "instructions-aarch64.tsv").read_text().splitlines()[1:]
+    lines = list(sys.stdin)[1:]
     counts = {(row, kind): float(count) for row, kind, _, count in (line.split("\t") for line in lines)}
     yield f"| Call | {' | '.join(KINDS)} Latin |\n|{'---|' * (len(KINDS) + 1)}"
     for row in ROWS:

@@ -1,12 +1,14 @@
 -- Right-to-left characters of a text in UTF-8: of one character, of a text joined from two, and none in Latin1.
-use Rattle.std.proofs.Common.{◌≡◌, ℕ, ◌<◌, ◌≤◌, ◌⊎◌, inl, inr, List, [], ◌∷◌, ◌++◌, length, take, drop, slice_index, encode_utf8, encode_utf8_all, IsUtf8, refl, sym, ap, ◌∙◌, arith, subst, Bool, true, false}
+use Rattle.std.proofs.Common.{◌≡◌, ℕ, ◌<◌, ◌≤◌, ◌⊎◌, inl, inr, List, [], ◌∷◌, ◌++◌, length, take, drop, slice_index}
+use Rattle.std.proofs.Common.{encode_utf8, encode_utf8_all, IsUtf8, refl, sym, ap, ◌∙◌, arith, subst, Bool, true, false}
 use Rattle.std.specs.Prelude.{Any}
 use Rattle.std.specs.Char.{IsScalar}
 use Rattle.std.specs.Str.{all_scalars, is_utf8}
 use Rattle.std.proofs.str.Laws.{both}
 use Rattle.std.proofs.lemmas.Bool.{cases_lt, and_from}
 use Rattle.std.proofs.lemmas.List.{append-nil, length-drop, drop_all, take-append-drop}
-use Rattle.std.proofs.lemmas.Str.{encodes-append, encodes_same, IsUtf8-append, IsUtf8-drop, IsUtf8-nil, IsUtf8-from_is_utf8, is_utf8-from_IsUtf8, IsCharBoundary-from_take}
+use Rattle.std.proofs.lemmas.Str.{encodes-append, encodes_same, IsUtf8-append, IsUtf8-drop, IsUtf8-nil}
+use Rattle.std.proofs.lemmas.Str.{IsUtf8-from_is_utf8, is_utf8-from_IsUtf8, IsCharBoundary-from_take}
 use lib.Utf8.{scalar}
 use Rattle.encoding_definitions.specs.Bidi.{IsRightToLeft, IsBidiText, IsBidiBytes}
 use Rattle.encoding_definitions.specs.Latin1.{IsUtf8Latin1}

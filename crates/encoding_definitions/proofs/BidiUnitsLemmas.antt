@@ -1,5 +1,6 @@
 -- Right-to-left parts of UTF-16 code units, unit by unit.
-use Rattle.std.proofs.Common.{◌≡◌, ℕ, ◌+◌, ◌-◌, ◌*◌, ◌/◌, ◌%◌, ◌<◌, ◌≤◌, ◌⊎◌, inl, inr, List, [], ◌∷◌, length, take, drop, slice_index, sym, ap, ◌∙◌, arith, subst}
+use Rattle.std.proofs.Common.{◌≡◌, ℕ, ◌+◌, ◌-◌, ◌*◌, ◌/◌, ◌%◌, ◌<◌, ◌≤◌, ◌⊎◌, inl, inr, List, []}
+use Rattle.std.proofs.Common.{◌∷◌, length, take, drop, slice_index, sym, ap, ◌∙◌, arith, subst}
 use Rattle.std.specs.Prelude.{Any, map}
 use Rattle.std.specs.Char.{IsScalar}
 use Rattle.std.specs.Int.{IsInRange}

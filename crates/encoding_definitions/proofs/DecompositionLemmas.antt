@@ -1,11 +1,13 @@
 -- The one list of parts of bytes: it exists, it is the only one, and its final parts stay for any bytes that follow.
-use Rattle.std.proofs.Common.{◌≡◌, ℕ, zero, suc, ◌+◌, ◌≤◌, inl, inr, true, List, [], ◌∷◌, ◌++◌, length, map, encode_utf8, encode_utf8_all, refl, sym, ap, ◌∙◌, arith, subst}
+use Rattle.std.proofs.Common.{◌≡◌, ℕ, zero, suc, ◌+◌, ◌≤◌, inl, inr, true, List, [], ◌∷◌, ◌++◌, length}
+use Rattle.std.proofs.Common.{map, encode_utf8, encode_utf8_all, refl, sym, ap, ◌∙◌, arith, subst}
 use Rattle.std.specs.List.{flat_map}
 use Rattle.std.specs.Str.{all_scalars}
 use Rattle.std.proofs.lemmas.Bool.{and_parts}
 use Rattle.std.proofs.lemmas.List.{length-append, append-nil, append_assoc}
 use Rattle.encoding_definitions.specs.Sequence.{IsIncomplete}
-use Rattle.encoding_definitions.specs.Parts.{Part, Character, IllFormed, bytes_of, IsFirstPart, StartsWith, ArePartsOf, lossy_scalar, lossy_utf8, malformed_count, AreFinal}
+use Rattle.encoding_definitions.specs.Parts.{Part, Character, IllFormed, bytes_of, IsFirstPart, StartsWith}
+use Rattle.encoding_definitions.specs.Parts.{ArePartsOf, lossy_scalar, lossy_utf8, malformed_count, AreFinal}
 use Rattle.encoding_definitions.proofs.SequenceLemmas.{decide_incomplete}
 use Rattle.encoding_definitions.proofs.PartsLemmas.{has_first_part, part_bytes, same_first_part, IsFirstPart-append}
 

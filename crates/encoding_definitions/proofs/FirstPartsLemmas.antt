@@ -5,9 +5,11 @@ use Rattle.std.specs.Char.Escape.{encode_utf16}
 use Rattle.std.proofs.lemmas.List.{append_assoc, append_cancel_right, append-nil, length-append, take-append-drop}
 use Rattle.std.proofs.lemmas.List.Concat.{flat_map-append}
 use Rattle.encoding_definitions.specs.Prefixes.{IsLongestFittingPrefix}
-use Rattle.encoding_definitions.specs.Utf16.{Part16, Character16, Unpaired, units_of_part16, utf8_of_part16, ArePaired, ArePartsOf16, StartsWith16, IsHighSurrogate}
+use Rattle.encoding_definitions.specs.Utf16.{Part16, Character16, Unpaired, units_of_part16, utf8_of_part16}
+use Rattle.encoding_definitions.specs.Utf16.{ArePaired, ArePartsOf16, StartsWith16, IsHighSurrogate}
 use Rattle.encoding_definitions.specs.FirstScalar.{BeginsLow, IsFirstPart16}
-use Rattle.encoding_definitions.proofs.Utf16Lemmas.{ArePartsOf16-cons, first_of_parts, tail_paired, parts_unique, rest_parts, length-units_of_part16, length-utf8_of_part16, none_left}
+use Rattle.encoding_definitions.proofs.Utf16Lemmas.{ArePartsOf16-cons, first_of_parts, tail_paired, parts_unique}
+use Rattle.encoding_definitions.proofs.Utf16Lemmas.{rest_parts, length-units_of_part16, length-utf8_of_part16, none_left}
 
 -- ---- units after parts
 -- the last part is no high surrogate with its low surrogate there

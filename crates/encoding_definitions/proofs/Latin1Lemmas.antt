@@ -1,5 +1,6 @@
 -- Latin1 text in UTF-8: its characters are of one byte below 0x80, or of two with the first 0xC2 or 0xC3.
-use Rattle.std.proofs.Common.{◌≡◌, ℕ, suc, zero, ◌+◌, ◌-◌, ◌*◌, ◌/◌, ◌%◌, ◌<◌, ◌≤◌, inl, inr, List, [], ◌∷◌, ◌++◌, length, take, drop, slice_index, encode_utf8, encode_utf8_all, IsUtf8, refl, sym, ap, ◌∙◌, arith, subst, append_assoc, take-add, true}
+use Rattle.std.proofs.Common.{◌≡◌, ℕ, suc, zero, ◌+◌, ◌-◌, ◌*◌, ◌/◌, ◌%◌, ◌<◌, ◌≤◌, inl, inr, List, [], ◌∷◌, ◌++◌, length, take, drop, slice_index}
+use Rattle.std.proofs.Common.{encode_utf8, encode_utf8_all, IsUtf8, refl, sym, ap, ◌∙◌, arith, subst, append_assoc, take-add, true}
 use Rattle.std.specs.Str.{all_scalars, chars}
 use Rattle.std.proofs.str.Laws.{two, three, four}
 use Rattle.std.proofs.lemmas.Bool.{cases_lt, and_from, and_parts}

@@ -1,5 +1,6 @@
 -- The repaired text is std's `utf8_lossy`.
-use Rattle.std.proofs.Common.{◌≡◌, ℕ, ◌<◌, ◌≤◌, inl, inr, true, List, [], ◌∷◌, ◌++◌, length, take, drop, encode_utf8, encode_utf8_all, refl, sym, ap, ◌∙◌, arith, subst}
+use Rattle.std.proofs.Common.{◌≡◌, ℕ, ◌<◌, ◌≤◌, inl, inr, true, List, [], ◌∷◌, ◌++◌, length, take}
+use Rattle.std.proofs.Common.{drop, encode_utf8, encode_utf8_all, refl, sym, ap, ◌∙◌, arith, subst}
 use Rattle.std.specs.Str.{all_scalars, IsUtf8, StartsWithNoChar}
 use Rattle.std.specs.Str.Lossy.{utf8_lossy, utf8_valid_len, utf8_invalid_len, replacement_bytes, second_byte_min, second_byte_max}
 use Rattle.std.specs.Int.{is_in_range}
@@ -13,7 +14,8 @@ use Rattle.std.proofs.str.Laws.{scalars-append}
 use lib.Utf8.{encode}
 use Rattle.encoding_definitions.specs.Sequence.{IsIncomplete, IsNeverLeading, IsSecond, IsContinuation}
 use Rattle.encoding_definitions.specs.Parts.{Part, Character, IllFormed, BeginsWithNoCharacter, IsLongestIncomplete, IsFirstPart, ArePartsOf, lossy_utf8}
-use Rattle.encoding_definitions.proofs.SequenceLemmas.{HasOpenShape, HasOpenShape-IsIncomplete, IsIncomplete-HasOpenShape, second_more, second_goes_on, third_goes_on}
+use Rattle.encoding_definitions.proofs.SequenceLemmas.{HasOpenShape, HasOpenShape-IsIncomplete, IsIncomplete-HasOpenShape}
+use Rattle.encoding_definitions.proofs.SequenceLemmas.{second_more, second_goes_on, third_goes_on}
 use Rattle.encoding_definitions.proofs.Utf8Lemmas.{starts_with_none}
 use Rattle.encoding_definitions.proofs.PartsLemmas.{IsRejected, rejected_part, unpaired_part, part_bytes}
 

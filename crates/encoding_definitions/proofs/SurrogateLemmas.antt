@@ -1,6 +1,7 @@
 -- Unpaired surrogates: the longest prefix without one, valid code units, in which std finds none, and the units that
 -- are left once each is replaced: valid, of the same scalar values, and changed only at the indices of these.
-use Rattle.std.proofs.Common.{◌≡◌, ℕ, suc, ◌+◌, ◌-◌, ◌<◌, ◌≤◌, ◌⊎◌, inl, inr, List, [], ◌∷◌, ◌++◌, length, take, drop, get_or, set, refl, sym, ap, ◌∙◌, arith, subst, append_assoc, take-add, true, ◌↔◌, false, zero, slice_index}
+use Rattle.std.proofs.Common.{◌≡◌, ℕ, suc, ◌+◌, ◌-◌, ◌<◌, ◌≤◌, ◌⊎◌, inl, inr, List, [], ◌∷◌, ◌++◌, length, take, drop, get_or, set}
+use Rattle.std.proofs.Common.{refl, sym, ap, ◌∙◌, arith, subst, append_assoc, take-add, true, ◌↔◌, false, zero, slice_index}
 use Rattle.std.specs.Prelude.{map, IsTrue, is_some, not}
 use Rattle.std.specs.Char.{IsScalar}
 use Rattle.std.specs.Char.Escape.{encode_utf16}
@@ -8,7 +9,8 @@ use Rattle.std.specs.Char.Utf16.{surrogate_pair_char, has_unpaired_surrogate, ut
 use Rattle.std.specs.List.{flat_map, list_any}
 use Rattle.std.specs.Str.{all_scalars}
 use Rattle.std.proofs.lemmas.Bool.{cases_lt, and_from}
-use Rattle.std.proofs.lemmas.List.{append-nil, length-append, length-drop, length-take-le, length-set, take_all, take_at, drop_all, drop_more, drop-drop, drop_at, get_or-drop, get_or-take, get_or_past, take-append-drop, set_at}
+use Rattle.std.proofs.lemmas.List.{append-nil, length-append, length-drop, length-take-le, length-set, take_all, take_at, drop_all}
+use Rattle.std.proofs.lemmas.List.{drop_more, drop-drop, drop_at, get_or-drop, get_or-take, get_or_past, take-append-drop, set_at}
 use Rattle.std.proofs.lemmas.List.Concat.{flat_map-append}
 use Rattle.std.proofs.str.Laws.{both}
 use Rattle.std.proofs.str.Utf16.{one_unit, two_units, IsPair}
@@ -19,7 +21,8 @@ use Rattle.encoding_definitions.specs.FirstScalar.{IsFirstPart16}
 use Rattle.encoding_definitions.specs.Utf16.{AreCodeUnits, Part16, Character16, Unpaired, units_of_part16, ArePaired, ArePartsOf16, scalar_of_part16}
 use Rattle.encoding_definitions.proofs.Utf16PrefixLemmas.{Walked, Walked_push}
 use Rattle.encoding_definitions.proofs.Utf16LawLemmas.{parts-encode, character_of, characters_are, scalars-encode, scalars_lossy, characters_units}
-use Rattle.encoding_definitions.proofs.Utf16Lemmas.{parts_of, parts_of-nil, parts_of-first, parts_are, parts_exist, first_pair, first_unit, first_single, head_part, tail_paired, parts_unique}
+use Rattle.encoding_definitions.proofs.Utf16Lemmas.{parts_of, parts_of-nil, parts_of-first, parts_are, parts_exist, first_pair}
+use Rattle.encoding_definitions.proofs.Utf16Lemmas.{first_unit, first_single, head_part, tail_paired, parts_unique}
 
 -- ---- valid units are the UTF-16 of scalar values
 valid_scalars : (cs : List ℕ) → ArePaired (map Character16 cs) → all_scalars cs ≡ true

@@ -1,5 +1,6 @@
 -- The parts of UTF-16 code units: each list of units has exactly one list of them, found from the left.
-use Rattle.std.proofs.Common.{◌≡◌, ℕ, zero, suc, ◌+◌, ◌-◌, ◌*◌, ◌/◌, ◌%◌, ◌<◌, ◌≤◌, ◌⊎◌, inl, inr, true, false, cond, ◌&&◌, List, [], ◌∷◌, ◌++◌, length, take, drop, get_or, encode_utf8, refl, sym, ap, ◌∙◌, arith, subst}
+use Rattle.std.proofs.Common.{◌≡◌, ℕ, zero, suc, ◌+◌, ◌-◌, ◌*◌, ◌/◌, ◌%◌, ◌<◌, ◌≤◌, ◌⊎◌, inl, inr, true, false, cond, ◌&&◌}
+use Rattle.std.proofs.Common.{List, [], ◌∷◌, ◌++◌, length, take, drop, get_or, encode_utf8, refl, sym, ap, ◌∙◌, arith, subst}
 use Rattle.std.specs.Prelude.{nat_le, nat_lt}
 use Rattle.std.specs.Char.{IsScalar}
 use Rattle.std.specs.Char.Escape.{encode_utf16}
@@ -14,7 +15,8 @@ use Rattle.std.proofs.lemmas.Str.{length-encode, len_utf8_bounds}
 use Rattle.std.proofs.str.Utf16.{one_unit, two_units, pair_units, IsPair}
 use lib.Utf8.{low_scalar, scalar_cases}
 use Rattle.encoding_definitions.proofs.EncodingLemmas.{high_scalar}
-use Rattle.encoding_definitions.specs.Utf16.{AreCodeUnits, IsHighSurrogate, IsLowSurrogate, Part16, Character16, Unpaired, units_of_part16, utf8_of_part16, IsPart16, ArePaired, ArePartsOf16}
+use Rattle.encoding_definitions.specs.Utf16.{AreCodeUnits, IsHighSurrogate, IsLowSurrogate, Part16, Character16, Unpaired}
+use Rattle.encoding_definitions.specs.Utf16.{units_of_part16, utf8_of_part16, IsPart16, ArePaired, ArePartsOf16}
 use Rattle.encoding_definitions.specs.FirstScalar.{BeginsLow, IsFirstPart16}
 
 -- ---- the parts, from the left

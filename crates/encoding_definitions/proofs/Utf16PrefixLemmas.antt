@@ -1,11 +1,15 @@
 -- The UTF-8 of a prefix of the parts of units: well-formed, walked part by part, and joined from two prefixes.
-use Rattle.std.proofs.Common.{ℕ, zero, suc, List, [], ◌∷◌, length, take, sym, ap, ◌∙◌, arith, subst, IsUtf8, ◌≡◌, ◌+◌, ◌-◌, ◌*◌, ◌<◌, ◌≤◌, inl, inr, get_or, ◌++◌, drop, encode_utf8, refl, append_assoc}
+use Rattle.std.proofs.Common.{ℕ, zero, suc, List, [], ◌∷◌, length, take, sym, ap, ◌∙◌, arith, subst, IsUtf8, ◌≡◌, ◌+◌}
+use Rattle.std.proofs.Common.{◌-◌, ◌*◌, ◌<◌, ◌≤◌, inl, inr, get_or, ◌++◌, drop, encode_utf8, refl, append_assoc}
 use Rattle.std.specs.List.{flat_map}
-use Rattle.std.proofs.lemmas.List.{take_all, append-nil, length-append, length-drop, take_at, take_rest, drop_all, drop_more, drop-drop, get_or-drop, get_or_past, take-append-drop}
+use Rattle.std.proofs.lemmas.List.{take_all, append-nil, length-append, length-drop, take_at, take_rest}
+use Rattle.std.proofs.lemmas.List.{drop_all, drop_more, drop-drop, get_or-drop, get_or_past, take-append-drop}
 use Rattle.std.proofs.lemmas.Str.{IsUtf8-nil, IsUtf8-append, IsUtf8-encode, length-encode}
-use Rattle.encoding_definitions.specs.Utf16.{Part16, Character16, Unpaired, utf8_of_part16, ArePaired, IsUtf8OfLongestPrefix, IsUtf8OfUnits, AreCodeUnits, scalar_of_part16, units_of_part16, ArePartsOf16, IsUtf8OfPrefix}
+use Rattle.encoding_definitions.specs.Utf16.{Part16, Character16, Unpaired, utf8_of_part16, ArePaired, IsUtf8OfLongestPrefix, IsUtf8OfUnits}
+use Rattle.encoding_definitions.specs.Utf16.{AreCodeUnits, scalar_of_part16, units_of_part16, ArePartsOf16, IsUtf8OfPrefix}
 use Rattle.encoding_definitions.proofs.EncodingLemmas.{high_scalar}
-use Rattle.encoding_definitions.proofs.Utf16Lemmas.{first_of_parts, tail_paired, parts_of, parts_of-nil, parts_of-first, parts_exist, rest_parts, none_left, parts_unique, length-utf8_of_all, length-units_of_part16, first_pair, first_single}
+use Rattle.encoding_definitions.proofs.Utf16Lemmas.{first_of_parts, tail_paired, parts_of, parts_of-nil, parts_of-first, parts_exist, rest_parts}
+use Rattle.encoding_definitions.proofs.Utf16Lemmas.{none_left, parts_unique, length-utf8_of_all, length-units_of_part16, first_pair, first_single}
 use Rattle.std.specs.Char.{len_utf8}
 use Rattle.std.specs.Char.Escape.{encode_utf16}
 use Rattle.std.specs.Char.Utf16.{surrogate_pair_char}
@@ -13,7 +17,8 @@ use Rattle.std.proofs.str.Utf16.{two_units, IsPair}
 use Rattle.std.proofs.lemmas.Bool.{cases_lt}
 use Rattle.encoding_definitions.specs.Prefixes.{IsLongestFittingPrefix, WritesPrefix}
 use Rattle.encoding_definitions.specs.FirstScalar.{IsFirstPart16, IsFirstScalar}
-use Rattle.encoding_definitions.proofs.PrefixesLemmas.{IsLongestFittingPrefix-all, IsLongestFittingPrefix-stop, WritesPrefix_after, WritesPrefix-length, IsLongestFittingPrefix-after, flat_map_push, length-prefix, written_is, written_prefix}
+use Rattle.encoding_definitions.proofs.PrefixesLemmas.{IsLongestFittingPrefix-all, IsLongestFittingPrefix-stop, WritesPrefix_after, WritesPrefix-length}
+use Rattle.encoding_definitions.proofs.PrefixesLemmas.{IsLongestFittingPrefix-after, flat_map_push, length-prefix, written_is, written_prefix}
 use borrow.Rule.Slice.PartMut.{put_mid}
 
 IsUtf8-part : (p : Part16) (ps : List Part16) → ArePaired (p ∷ ps) → IsUtf8 (utf8_of_part16 p)

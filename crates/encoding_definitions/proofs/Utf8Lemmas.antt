@@ -1,6 +1,7 @@
 -- The UTF-8 of characters: the longest well-formed prefix, character by character, and writing one at the start of a
 -- destination.
-use Rattle.std.proofs.Common.{◌≡◌, ℕ, ◌+◌, ◌<◌, ◌≤◌, inl, inr, List, length, take, drop, encode_utf8, refl, sym, ap, ◌∙◌, arith, subst, take-add, ◌/◌, ◌%◌, [], set, bit_and, bit_or}
+use Rattle.std.proofs.Common.{◌≡◌, ℕ, ◌+◌, ◌<◌, ◌≤◌, inl, inr, List, length, take, drop, encode_utf8, refl}
+use Rattle.std.proofs.Common.{sym, ap, ◌∙◌, arith, subst, take-add, ◌/◌, ◌%◌, [], set, bit_and, bit_or}
 use Rattle.std.specs.Str.{IsUtf8, StartsWithNoChar}
 use Rattle.std.proofs.lemmas.Bool.{cases_lt}
 use Rattle.std.proofs.lemmas.List.{take_at, length-append, length-drop}
@@ -15,7 +16,8 @@ use Rattle.std.proofs.lemmas.Grind.{common_steps}
 use Rattle.std.specs.Char.{len_utf8}
 use Rattle.std.proofs.lemmas.Bool.Decides.{nat_tests}
 use Rattle.std.proofs.str.Laws.{two, three, four}
-use Rattle.encoding_definitions.proofs.PrefixesLemmas.{WritesPrefix-nil, WritesPrefix-same, WritesPrefix_push_two, WritesPrefix_push_three, WritesPrefix_push_four}
+use Rattle.encoding_definitions.proofs.PrefixesLemmas.{WritesPrefix-nil, WritesPrefix-same, WritesPrefix_push_two}
+use Rattle.encoding_definitions.proofs.PrefixesLemmas.{WritesPrefix_push_three, WritesPrefix_push_four}
 
 pub IsUtf8-sequence : (bs : List ℕ) → IsSequence bs → IsUtf8 bs
 IsUtf8-sequence bs s = let c = decode_utf8_scalar bs s in subst IsUtf8 c.2 (IsUtf8-encode c.0 c.1)

@@ -1,7 +1,8 @@
 -- Well-formed UTF-8 byte sequences: Unicode Standard, Table 3-7. The formulas that decide sequences of three and of
 -- four bytes by a table of 384 entries: one for each second byte, followed by one for each first byte from 0x80 on. And
 -- the pending bytes of a decoder, which it keeps between calls.
-use Rattle.std.specs.Prelude.{ℕ, ◌<◌, ◌≤◌, Bool, true, false, ◌&&◌, List, [], ◌∷◌, ◌++◌, length, ◌⊎◌, nat_le, IsTrue, ◌+◌, ◌*◌, ◌/◌, ◌^◌, slice_index, bit_and, bit_or, ◌≡◌}
+use Rattle.std.specs.Prelude.{ℕ, ◌<◌, ◌≤◌, Bool, true, false, ◌&&◌, List, [], ◌∷◌, ◌++◌, length, ◌⊎◌}
+use Rattle.std.specs.Prelude.{nat_le, IsTrue, ◌+◌, ◌*◌, ◌/◌, ◌^◌, slice_index, bit_and, bit_or, ◌≡◌}
 use Rattle.std.specs.List.{list_any}
 use Rattle.std.specs.Str.Lossy.{second_byte_min, second_byte_max}
 

@@ -1,5 +1,6 @@
 -- The look-ups of right-to-left characters in UTF-8, lane by lane: a lane that is zero begins none.
-use Rattle.std.proofs.Common.{◌≡◌, ℕ, ◌+◌, ◌-◌, ◌/◌, ◌%◌, ◌<◌, ◌≤◌, inl, inr, true, sym, map, List, ◌++◌, length, get_or, slice_index, encode_utf8, bit_and, refl, arith, ◌∙◌, ap, subst, eqb, w8, Fits}
+use Rattle.std.proofs.Common.{◌≡◌, ℕ, ◌+◌, ◌-◌, ◌/◌, ◌%◌, ◌<◌, ◌≤◌, inl, inr, true, sym, map, List, ◌++◌, length}
+use Rattle.std.proofs.Common.{get_or, slice_index, encode_utf8, bit_and, refl, arith, ◌∙◌, ap, subst, eqb, w8, Fits}
 use Rattle.std.proofs.lemmas.Bool.{cases_lt, eqb-true}
 use Rattle.std.proofs.lemmas.Nat.Bits.{bit_at-zero, bit_at_and}
 use Rattle.std.proofs.str.Laws.{two, three, four}

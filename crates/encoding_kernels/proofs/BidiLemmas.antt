@@ -1,6 +1,7 @@
 -- Indices of bytes at which there are right-to-left characters: a text with one has such an index, and the first three
 -- bytes show if there is none. And code units that aren't right-to-left, by ranges that hold all those that are.
-use Rattle.std.proofs.Common.{◌≡◌, ℕ, ◌+◌, ◌/◌, ◌%◌, ◌<◌, ◌≤◌, inl, inr, List, [], ◌∷◌, ◌++◌, length, take, drop, slice_index, encode_utf8, encode_utf8_all, IsUtf8, refl, sym, ap, ◌∙◌, arith, subst, Bool, true, false, cond, ◌&&◌, leb, ltb, eqb, bit_or, ◌^◌, ◌⊎◌, ◌||◌}
+use Rattle.std.proofs.Common.{◌≡◌, ℕ, ◌+◌, ◌/◌, ◌%◌, ◌<◌, ◌≤◌, inl, inr, List, [], ◌∷◌, ◌++◌, length, take, drop, slice_index, encode_utf8, encode_utf8_all}
+use Rattle.std.proofs.Common.{IsUtf8, refl, sym, ap, ◌∙◌, arith, subst, Bool, true, false, cond, ◌&&◌, leb, ltb, eqb, bit_or, ◌^◌, ◌⊎◌, ◌||◌}
 use Rattle.std.specs.Prelude.{Any, nat_eq}
 use Rattle.std.specs.Str.{all_scalars}
 use Rattle.std.proofs.str.Laws.{two, three, four, both}
@@ -13,9 +14,11 @@ use Rattle.encoding_definitions.specs.Bidi.{IsRightToLeft, IsBidiText, IsBidiByt
 use Rattle.encoding_definitions.specs.Parts.{BeginsWithNoCharacter}
 use Rattle.encoding_definitions.specs.Sequence.{IsSequence}
 use Rattle.encoding_kernels.specs.Scans.{PassBetween, BelowUpTo, BelowBetween}
-use Rattle.encoding_kernels.specs.RightToLeft.{rtl_second_end, ends_mark, rtl_mark_lead, may_start_rtl, HasNoRtlAt, RtlAt, NoRtlIn, NoneRightToLeft, in_range, may_be_right_to_left}
+use Rattle.encoding_kernels.specs.RightToLeft.{rtl_second_end, ends_mark, rtl_mark_lead, may_start_rtl, HasNoRtlAt}
+use Rattle.encoding_kernels.specs.RightToLeft.{RtlAt, NoRtlIn, NoneRightToLeft, in_range, may_be_right_to_left}
 use Rattle.encoding_definitions.proofs.AnyLemmas.{Any-none, Any-cons}
-use Rattle.encoding_definitions.proofs.BidiTextLemmas.{right_to_left_from, character_bidi, bidi_character, found_in_text, bidi_after, bidi_either, rest_text, text_of_bidi, text_of_latin1, latin1_not_bidi}
+use Rattle.encoding_definitions.proofs.BidiTextLemmas.{right_to_left_from, character_bidi, bidi_character, found_in_text, bidi_after}
+use Rattle.encoding_definitions.proofs.BidiTextLemmas.{bidi_either, rest_text, text_of_bidi, text_of_latin1, latin1_not_bidi}
 use Rattle.encoding_kernels.proofs.MaskLemmas.{wrapped}
 use Rattle.encoding_kernels.proofs.PairsLemmas.{ascii_latin1}
 use Rattle.encoding_definitions.proofs.EncodingLemmas.{decode_utf8_scalar, IsSequence-encode}

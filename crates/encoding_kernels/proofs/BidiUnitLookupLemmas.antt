@@ -1,5 +1,6 @@
 -- The look-ups of right-to-left code units, lane by lane: a lane that is zero holds none.
-use Rattle.std.proofs.Common.{◌≡◌, ℕ, ◌+◌, ◌-◌, ◌*◌, ◌/◌, ◌%◌, ◌^◌, ◌<◌, ◌≤◌, inl, inr, true, ◌==◌, false, eq-eqb, sym, map, List, length, replicate, get_or, bit_and, refl, arith, w8, Fits, ◌∙◌, ap, subst, ◌⊎◌, slice_index}
+use Rattle.std.proofs.Common.{◌≡◌, ℕ, ◌+◌, ◌-◌, ◌*◌, ◌/◌, ◌%◌, ◌^◌, ◌<◌, ◌≤◌, inl, inr, true, ◌==◌, false, eq-eqb, sym, map, List}
+use Rattle.std.proofs.Common.{length, replicate, get_or, bit_and, refl, arith, w8, Fits, ◌∙◌, ap, subst, ◌⊎◌, slice_index}
 use Rattle.std.proofs.lemmas.Bool.{cases_lt, true≢false}
 use Rattle.std.specs.List.{range_with_len}
 use Rattle.std.specs.Int.{IsInRange}

@@ -1,5 +1,6 @@
 -- The kept lanes of a vector, moved to its start by a table of their indices.
-use Rattle.std.proofs.Common.{◌≡◌, ℕ, zero, suc, ◌+◌, ◌-◌, ◌*◌, ◌/◌, ◌%◌, ◌^◌, ◌<◌, ◌≤◌, ◌==◌, Bool, true, false, ◌&&◌, if◌then◌else◌, leb, ltb, eqb, List, [], ◌∷◌, ◌++◌, map, length, take, drop, get_or, replicate, bit_and, refl, sym, ap, ◌∙◌, arith, subst, w8, w16, append_assoc}
+use Rattle.std.proofs.Common.{◌≡◌, ℕ, zero, suc, ◌+◌, ◌-◌, ◌*◌, ◌/◌, ◌%◌, ◌^◌, ◌<◌, ◌≤◌, ◌==◌, Bool, true, false, ◌&&◌, if◌then◌else◌, leb, ltb, eqb, List}
+use Rattle.std.proofs.Common.{[], ◌∷◌, ◌++◌, map, length, take, drop, get_or, replicate, bit_and, refl, sym, ap, ◌∙◌, arith, subst, w8, w16, append_assoc}
 use Rattle.std.specs.List.{range_with_len}
 use Rattle.std.specs.Int.RustNames.{count_ones}
 use Rattle.std.specs.Simd.Lanes.{zip2, sel_l, top, put_chunk, mask_l, Each1, number_l, digits_l}
@@ -8,12 +9,14 @@ use Rattle.std.proofs.lemmas.Bool.{and_parts, eqb-true, leb-true}
 use Rattle.std.proofs.lemmas.Bool.Decides.{nat_tests}
 use Rattle.std.proofs.lemmas.Grind.{same_number_lists}
 use Rattle.std.proofs.lemmas.Nat.{and_mask, ones_le_self}
-use Rattle.std.proofs.lemmas.List.{length-map, length-append, length-take-le, length-drop, get_or-map, take-map, map-append, take-append-drop, take_at, drop_at, drop-drop, drop-append-le}
+use Rattle.std.proofs.lemmas.List.{length-map, length-append, length-take-le, length-drop, get_or-map, take-map}
+use Rattle.std.proofs.lemmas.List.{map-append, take-append-drop, take_at, drop_at, drop-drop, drop-append-le}
 use Rattle.std.proofs.lemmas.Simd.{SwzOk, SwzOk-from_below, swz_l, Each1-get_or, mask_l-lt, ones-mask_l_cons, length-put_chunk}
 use Rattle.encoding_kernels.specs.declared.utf8_to_utf16.strides.TheConstants.{COMPRESSED}
 use Rattle.encoding_kernels.specs.Scans.{HasLanes}
 use Rattle.encoding_kernels.proofs.MovedLemmas.{words_moved}
-use Rattle.encoding_kernels.proofs.VectorLemmas.{put_prefix, put_is, HasLanes-itself, HasLanes-numbers, HasLanes-splat, compared, firsts_are, same_below, wide_l}
+use Rattle.encoding_kernels.proofs.VectorLemmas.{put_prefix, put_is, HasLanes-itself, HasLanes-numbers}
+use Rattle.encoding_kernels.proofs.VectorLemmas.{HasLanes-splat, compared, firsts_are, same_below, wide_l}
 use Rattle.encoding_kernels.proofs.MaskLemmas.{chosen_by, tests_of}
 use Rattle.encoding_kernels.proofs.MaskPartLemmas.{mask_split, low_half, high_half}
 use Rattle.encoding_kernels.specs.EndingUnits.{keep, places_from, compressed_places, bytes_at, byte_places, WritesCompressed}

@@ -1,5 +1,6 @@
 -- Each table of kept indices has, for each mask of eight tests, the indices that the tests keep.
-use Rattle.std.proofs.Common.{◌≡◌, ℕ, zero, suc, ◌+◌, ◌*◌, ◌^◌, ◌<◌, Bool, true, false, ◌&&◌, ◌==◌, eqb-true, List, [], ◌∷◌, ap, ◌∙◌, length, take, get_or, refl, sym, arith, subst, inl, inr}
+use Rattle.std.proofs.Common.{◌≡◌, ℕ, zero, suc, ◌+◌, ◌*◌, ◌^◌, ◌<◌, Bool, true, false, ◌&&◌, ◌==◌, eqb-true}
+use Rattle.std.proofs.Common.{List, [], ◌∷◌, ap, ◌∙◌, length, take, get_or, refl, sym, arith, subst, inl, inr}
 use Rattle.std.proofs.lemmas.Bool.{and_parts, cases_lt, ltb-true, false≢true}
 use Rattle.std.specs.Simd.Lanes.{mask_l, number_l, digits_l}
 use lib.Dec.{ltb}

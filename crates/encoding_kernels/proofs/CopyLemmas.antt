@@ -1,6 +1,7 @@
 -- What is stored of a vector: its first bytes, of which a second store overwrites the excess, and the lower bytes of code
 -- units. And a vector of a short text followed by zeros, from its first eight bytes and its last eight.
-use Rattle.std.proofs.Common.{◌≡◌, ℕ, ◌+◌, ◌≤◌, List, ◌++◌, length, take, drop, length-take-le, get_or, cond, ltb, sym, ap, ◌∙◌, arith, append_assoc, map, replicate, ◌%◌, ◌<◌, map-id, get_or-take, bit_and, w8, Fits, ◌-◌, ◌^◌, length-append, length-drop, get_or-drop, inl, inr, refl}
+use Rattle.std.proofs.Common.{◌≡◌, ℕ, ◌+◌, ◌≤◌, List, ◌++◌, length, take, drop, length-take-le, get_or, cond, ltb, sym, ap, ◌∙◌, arith, append_assoc, map}
+use Rattle.std.proofs.Common.{replicate, ◌%◌, ◌<◌, map-id, get_or-take, bit_and, w8, Fits, ◌-◌, ◌^◌, length-append, length-drop, get_or-drop, inl, inr, refl}
 use Rattle.std.proofs.lemmas.List.{take_all, drop_at, length-map, get_or-map, get_or_append_left, get_or-append_right, length-take-le}
 use Rattle.std.proofs.lemmas.Simd.{length-put_chunk, length-chunk, Each1-from_get_or, length-replicate, get_or-replicate, swz_l, SwzOk}
 use Rattle.std.specs.List.{range_with_len}
@@ -10,7 +11,8 @@ use mir.Val.{hbits}
 use Rattle.encoding_kernels.specs.Scans.{HasLanes}
 use Rattle.encoding_definitions.specs.Prefixes.{WritesPrefix}
 use Rattle.encoding_definitions.proofs.PrefixesLemmas.{WritesPrefix-same}
-use Rattle.encoding_kernels.proofs.VectorLemmas.{put_prefix, put_is, HasLanes-itself, HasLanes-numbers, HasLanes-splat, compared, put_firsts, HasLanes-zip2, HasLanes_same, HasLanes-swizzle, swizzle_ok}
+use Rattle.encoding_kernels.proofs.VectorLemmas.{put_prefix, put_is, HasLanes-itself, HasLanes-numbers, HasLanes-splat, compared}
+use Rattle.encoding_kernels.proofs.VectorLemmas.{put_firsts, HasLanes-zip2, HasLanes_same, HasLanes-swizzle, swizzle_ok}
 use Rattle.encoding_kernels.proofs.MaskLemmas.{chosen_by, tests_of}
 use Rattle.std.proofs.lemmas.Grind.{same_number_lists}
 use Rattle.std.proofs.lemmas.Nat.{and_mask, and_le_r}

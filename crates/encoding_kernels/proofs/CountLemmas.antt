@@ -1,7 +1,8 @@
 -- The number of parts of a text, by its characters of four bytes and by its surrogate pairs. And the length of the
 -- repaired text of bytes: three for each part and one more for a character of four bytes, less what those of one and two
 -- bytes have below three.
-use Rattle.std.proofs.Common.{◌≡◌, ℕ, ◌+◌, ◌<◌, ◌≤◌, inl, inr, Bool, not, cond, ◌&&◌, eqb, leb, ltb, bit_and, List, [], ◌∷◌, ◌++◌, length, drop, map, replicate, slice_index, nat_le, Fits, w8, w16, encode_utf8, refl, ap, ◌∙◌, arith, subst, ◌*◌}
+use Rattle.std.proofs.Common.{◌≡◌, ℕ, ◌+◌, ◌<◌, ◌≤◌, inl, inr, Bool, not, cond, ◌&&◌, eqb, leb, ltb, bit_and, List, [], ◌∷◌, ◌++◌, length}
+use Rattle.std.proofs.Common.{drop, map, replicate, slice_index, nat_le, Fits, w8, w16, encode_utf8, refl, ap, ◌∙◌, arith, subst, ◌*◌}
 use Rattle.std.specs.Simd.Lanes.{Each1, sel_l, top, zip2}
 use Rattle.std.specs.Char.Escape.{encode_utf16}
 use Rattle.std.specs.List.{flat_map}
@@ -15,7 +16,8 @@ use Rattle.encoding_definitions.specs.Sequence.{IsContinuation, IsSecond, IsNeve
 use Rattle.encoding_definitions.specs.Parts.{Part, Character, IllFormed, ArePartsOf, IsFirstPart, lossy_scalar, lossy_utf16, lossy_utf8}
 use Rattle.encoding_definitions.specs.Utf16.{Part16, Character16, Unpaired, units_of_part16, ArePaired, ArePartsOf16}
 use Rattle.encoding_definitions.specs.FirstScalar.{IsFirstPart16}
-use Rattle.encoding_definitions.proofs.SequenceLemmas.{HasShape, HasOpenShape, HasShape-IsSequence, IsSequence-HasShape, HasOpenShape-IsIncomplete, IsIncomplete-HasOpenShape, second_more}
+use Rattle.encoding_definitions.proofs.SequenceLemmas.{HasShape, HasOpenShape, HasShape-IsSequence, IsSequence-HasShape}
+use Rattle.encoding_definitions.proofs.SequenceLemmas.{HasOpenShape-IsIncomplete, IsIncomplete-HasOpenShape, second_more}
 use Rattle.encoding_definitions.proofs.EncodingLemmas.{IsSequence-encode}
 use Rattle.encoding_definitions.proofs.PartsLemmas.{unpaired_part}
 use Rattle.encoding_definitions.proofs.Utf16Lemmas.{halves, first_of_parts, tail_paired}
@@ -26,7 +28,8 @@ use Rattle.encoding_kernels.specs.Counts.{is_four_bytes, begins_four_bytes, begi
 use Rattle.encoding_kernels.proofs.VectorLemmas.{HasLanes-itself, HasLanes_same, HasLanes-splat, HasLanes-zip2, compared}
 use Rattle.encoding_kernels.proofs.MaskLemmas.{chosen, tests_and, tests_of}
 use Rattle.encoding_kernels.proofs.SumLemmas.{one_or_none, below_is, pair_is, skipped_below}
-use Rattle.encoding_kernels.proofs.LengthLemmas.{units_of_character, IsRejectedBefore, rejected_second, rejected_third, rejected_after, second_low, not_high, not_low, unpaired_apart, utf16_total}
+use Rattle.encoding_kernels.proofs.LengthLemmas.{units_of_character, IsRejectedBefore, rejected_second, rejected_third}
+use Rattle.encoding_kernels.proofs.LengthLemmas.{rejected_after, second_low, not_high, not_low, unpaired_apart, utf16_total}
 use Rattle.std.specs.Prelude.{Option, Some, None, SomeIff, ◌-◌, ◌^◌}
 use Rattle.std.specs.Char.{IsScalar}
 use Rattle.std.proofs.lemmas.Str.{length-encode, len_utf8_bounds}

@@ -1,5 +1,6 @@
 -- Lanes that the comparisons of several vectors are joined into.
-use Rattle.std.proofs.Common.{◌≡◌, ℕ, ◌+◌, ◌-◌, ◌<◌, ◌≤◌, ◌↔◌, cond, leb, inl, inr, List, length, get_or, map, replicate, bit_or, ap, ◌∙◌, sym, arith, subst, w8, w16}
+use Rattle.std.proofs.Common.{◌≡◌, ℕ, ◌+◌, ◌-◌, ◌<◌, ◌≤◌, ◌↔◌, cond, leb, inl, inr, List, length}
+use Rattle.std.proofs.Common.{get_or, map, replicate, bit_or, ap, ◌∙◌, sym, arith, subst, w8, w16}
 use Rattle.std.proofs.lemmas.Bool.{cases_lt}
 use Rattle.std.proofs.lemmas.Bool.Decides.{nat_tests}
 use Rattle.std.specs.Simd.Lanes.{chunk, zip2, top, sel_l, number_l, digits_l}

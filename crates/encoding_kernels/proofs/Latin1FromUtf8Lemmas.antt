@@ -1,6 +1,8 @@
 -- Latin1 text in UTF-8 byte by byte: the bytes with which characters begin, and the byte of Latin1 that each byte ends.
 -- Pairs of bytes in a vector of sixteen: which of them end a byte of Latin1, and which bytes these are.
-use Rattle.std.proofs.Common.{◌≡◌, ℕ, zero, suc, ◌+◌, ◌*◌, ◌/◌, ◌%◌, ◌<◌, ◌≤◌, inl, inr, cond, ◌&&◌, List, [], ◌∷◌, ◌++◌, map, length, take, drop, get_or, encode_utf8_all, refl, sym, ap, ◌∙◌, arith, subst, append_assoc, ◌-◌, ◌^◌, ◌⊎◌, Bool, ltb, replicate, bit_and, w8, w16, Fits, length-append, take-add, drop-drop}
+use Rattle.std.proofs.Common.{◌≡◌, ℕ, zero, suc, ◌+◌, ◌*◌, ◌/◌, ◌%◌, ◌<◌, ◌≤◌, inl, inr, cond, ◌&&◌, List, [], ◌∷◌, ◌++◌, map}
+use Rattle.std.proofs.Common.{length, take, drop, get_or, encode_utf8_all, refl, sym, ap, ◌∙◌, arith, subst, append_assoc, ◌-◌}
+use Rattle.std.proofs.Common.{◌^◌, ◌⊎◌, Bool, ltb, replicate, bit_and, w8, w16, Fits, length-append, take-add, drop-drop}
 use Rattle.std.specs.Prelude.{nat_lt, nat_le}
 use Rattle.std.proofs.str.Laws.{two}
 use Rattle.std.proofs.lemmas.Bool.{cases_lt}
@@ -18,7 +20,8 @@ use Rattle.encoding_definitions.proofs.Latin1Lemmas.{IsLatin1-rest}
 use Rattle.std.proofs.lemmas.Nat.{and_mask}
 use Rattle.encoding_kernels.specs.Scans.{HasLanes}
 use Rattle.encoding_kernels.proofs.MaskPartLemmas.{first_mask}
-use Rattle.encoding_kernels.proofs.VectorLemmas.{HasLanes-itself, HasLanes-splat, HasLanes-zip2, HasLanes_same, compared, top_compared, mask_of, bytes_of, bytes_lanes, wide, wide_l}
+use Rattle.encoding_kernels.proofs.VectorLemmas.{HasLanes-itself, HasLanes-splat, HasLanes-zip2, HasLanes_same, compared}
+use Rattle.encoding_kernels.proofs.VectorLemmas.{top_compared, mask_of, bytes_of, bytes_lanes, wide, wide_l}
 use Rattle.encoding_kernels.proofs.MaskLemmas.{chosen_by, tests_of, tests_and}
 
 -- a byte that continues a character

@@ -1,5 +1,7 @@
 -- The UTF-8 of sixteen bytes of Latin1: both bytes of each, and which of them are kept.
-use Rattle.std.proofs.Common.{◌≡◌, ℕ, suc, ◌+◌, ◌-◌, ◌*◌, ◌/◌, ◌%◌, ◌^◌, ◌<◌, ◌≤◌, inl, inr, Bool, cond, leb, List, [], ◌∷◌, ◌++◌, map, length, take, drop, get_or, get_or-take, get_or-drop, length-append, length-drop, length-take-le, encode_utf8, encode_utf8_all, bit_and, replicate, sym, ap, ◌∙◌, arith, subst, w8}
+use Rattle.std.proofs.Common.{◌≡◌, ℕ, suc, ◌+◌, ◌-◌, ◌*◌, ◌/◌, ◌%◌, ◌^◌, ◌<◌, ◌≤◌, inl, inr, Bool, cond, leb, List, [], ◌∷◌}
+use Rattle.std.proofs.Common.{◌++◌, map, length, take, drop, get_or, get_or-take, get_or-drop, length-append, length-drop}
+use Rattle.std.proofs.Common.{length-take-le, encode_utf8, encode_utf8_all, bit_and, replicate, sym, ap, ◌∙◌, arith, subst, w8}
 use Rattle.std.specs.Prelude.{nat_le}
 use Rattle.std.proofs.lemmas.Bool.Decides.{nat_tests}
 use Rattle.std.proofs.lemmas.List.{length-map, take-map, drop-map, take-append-drop, take_at, drop_at, take-take}

@@ -1,5 +1,6 @@
 -- The sums over whole texts are the lengths in another encoding.
-use Rattle.std.proofs.Common.{◌≡◌, ℕ, suc, ◌+◌, ◌*◌, ◌/◌, ◌%◌, ◌<◌, ◌≤◌, inl, inr, false, cond, List, [], ◌∷◌, ◌++◌, length, slice_index, nat_le, encode_utf8, encode_utf8_all, refl, sym, ap, ◌∙◌, arith, subst}
+use Rattle.std.proofs.Common.{◌≡◌, ℕ, suc, ◌+◌, ◌*◌, ◌/◌, ◌%◌, ◌<◌, ◌≤◌, inl, inr, false, cond, List, [], ◌∷◌, ◌++◌, length}
+use Rattle.std.proofs.Common.{slice_index, nat_le, encode_utf8, encode_utf8_all, refl, sym, ap, ◌∙◌, arith, subst}
 use Rattle.std.specs.Char.{IsScalar, len_utf8}
 use Rattle.std.specs.Char.Escape.{encode_utf16}
 use Rattle.std.specs.List.{flat_map}
@@ -14,10 +15,12 @@ use lib.Utf8.{scalar_cases}
 use mir.Val.{bool_byte}
 use Rattle.encoding_definitions.specs.Sequence.{IsContinuation, IsSecond, IsNeverLeading}
 use Rattle.encoding_definitions.specs.Latin1.{IsLatin1, IsUtf8Latin1}
-use Rattle.encoding_definitions.specs.Parts.{Part, Character, IllFormed, ArePartsOf, IsFirstPart, BeginsWithNoCharacter, IsLongestIncomplete, lossy_scalar, lossy_utf16}
+use Rattle.encoding_definitions.specs.Parts.{Part, Character, IllFormed, ArePartsOf, IsFirstPart}
+use Rattle.encoding_definitions.specs.Parts.{BeginsWithNoCharacter, IsLongestIncomplete, lossy_scalar, lossy_utf16}
 use Rattle.encoding_definitions.specs.Utf16.{Part16, Character16, Unpaired, units_of_part16, utf8_of_part16, IsHighSurrogate, ArePaired, ArePartsOf16}
 use Rattle.encoding_definitions.specs.FirstScalar.{IsFirstPart16, BeginsLow}
-use Rattle.encoding_definitions.proofs.SequenceLemmas.{HasShape, HasOpenShape, HasShape-IsSequence, HasOpenShape-IsIncomplete, IsIncomplete-HasOpenShape, second_two, second_more, second_goes_on, third_goes_on}
+use Rattle.encoding_definitions.proofs.SequenceLemmas.{HasShape, HasOpenShape, HasShape-IsSequence, HasOpenShape-IsIncomplete}
+use Rattle.encoding_definitions.proofs.SequenceLemmas.{IsIncomplete-HasOpenShape, second_two, second_more, second_goes_on, third_goes_on}
 use Rattle.encoding_definitions.proofs.EncodingLemmas.{IsSequence-encode}
 use Rattle.encoding_definitions.proofs.PartsLemmas.{IsRejected, rejected_part, unpaired_part}
 use Rattle.encoding_definitions.proofs.Utf16Lemmas.{halves, first_of_parts, tail_paired}

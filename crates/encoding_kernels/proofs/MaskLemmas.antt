@@ -1,6 +1,8 @@
 -- Masks as tests of lanes: combined, used to select, and what holds if no lane passes. Lanes that are zero, and whether
 -- sixteen code units are below a power of two: the bits from it on, joined, are zero.
-use Rattle.std.proofs.Common.{◌≡◌, ℕ, ◌-◌, ◌^◌, ◌+◌, ◌<◌, ◌≤◌, ◌↔◌, IsTrue, Bool, true, false, not, cond, ◌&&◌, ◌||◌, eqb, leb, ltb, inl, inr, List, length, get_or, map, replicate, bit_and, bit_or, bit_xor, refl, sym, ap, ◌∙◌, arith, subst, zero, suc, ◌*◌, ◌/◌, ◌%◌, [], ◌∷◌, Fits, w16, w8}
+use Rattle.std.proofs.Common.{◌≡◌, ℕ, ◌-◌, ◌^◌, ◌+◌, ◌<◌, ◌≤◌, ◌↔◌, IsTrue, Bool, true, false, not, cond, ◌&&◌, ◌||◌}
+use Rattle.std.proofs.Common.{eqb, leb, ltb, inl, inr, List, length, get_or, map, replicate, bit_and, bit_or, bit_xor}
+use Rattle.std.proofs.Common.{refl, sym, ap, ◌∙◌, arith, subst, zero, suc, ◌*◌, ◌/◌, ◌%◌, [], ◌∷◌, Fits, w16, w8}
 use Rattle.std.proofs.lemmas.Bool.{cases_lt, false≢true, leb-false, lt-leb, eqb-true, eq-eqb, not-true, not-false, not_from_false, not_from_true}
 use Rattle.std.specs.Int.Bits.{and_self, and_zero_l, and_zero_r, or_self, or_zero_l, or_zero_r, xor_self, xor_zero_l, xor_zero_r}
 use Rattle.std.specs.Simd.Lanes.{chunk, zip2, top, sel_l, fold_l, Each1, number_l, digits_l}
@@ -9,7 +11,8 @@ use lib.Count.{count_trailing_zeros}
 use mir.Syntax.{Width}
 use mir.Val.{bits, hbits}
 use Rattle.encoding_kernels.specs.Scans.{HasLanes, Marks, PassBetween}
-use Rattle.encoding_kernels.proofs.VectorLemmas.{HasLanes_load, HasLanes-zip2, HasLanes-splat, HasLanes-select, HasLanes_same, compared, top_compared, mask_of, mask_is, IsFirstSet, first_set, first_none, no_bit_from, HasLanes-itself, narrow, sixteen_lanes}
+use Rattle.encoding_kernels.proofs.VectorLemmas.{HasLanes_load, HasLanes-zip2, HasLanes-splat, HasLanes-select, HasLanes_same, compared, top_compared}
+use Rattle.encoding_kernels.proofs.VectorLemmas.{mask_of, mask_is, IsFirstSet, first_set, first_none, no_bit_from, HasLanes-itself, narrow, sixteen_lanes}
 use Rattle.std.proofs.lemmas.Nat.{le_or_l, le_or_r, and_le_l}
 use Rattle.std.proofs.lemmas.List.{get_or_past}
 use Rattle.std.proofs.lemmas.Nat.Bits.{and_high_mask}

@@ -1,5 +1,7 @@
 -- The UTF-8 of code units in four bytes each, of which a table selects and orders those of their UTF-8.
-use Rattle.std.proofs.Common.{◌≡◌, ℕ, suc, ◌+◌, ◌-◌, ◌*◌, ◌/◌, ◌%◌, ◌^◌, ◌<◌, ◌≤◌, IsTrue, Bool, true, false, not, eqb, cond, inl, inr, replicate, Fits, w16, List, [], ◌∷◌, ◌++◌, map, length, take, drop, get_or, encode_utf8, encode_utf8_all, length-append, bit_and, refl, sym, ap, ◌∙◌, arith, subst, w8, leb, ltb, length-take-le, length-drop, take-append-drop, get_or-drop, get_or-take}
+use Rattle.std.proofs.Common.{◌≡◌, ℕ, suc, ◌+◌, ◌-◌, ◌*◌, ◌/◌, ◌%◌, ◌^◌, ◌<◌, ◌≤◌, IsTrue, Bool, true, false, not, eqb, cond, inl, inr, replicate, Fits}
+use Rattle.std.proofs.Common.{w16, List, [], ◌∷◌, ◌++◌, map, length, take, drop, get_or, encode_utf8, encode_utf8_all, length-append, bit_and, refl}
+use Rattle.std.proofs.Common.{sym, ap, ◌∙◌, arith, subst, w8, leb, ltb, length-take-le, length-drop, take-append-drop, get_or-drop, get_or-take}
 use Rattle.std.specs.Prelude.{nat_lt}
 use Rattle.std.proofs.lemmas.Bool.{cases_lt, eqb-false, ltb-true, lt-ltb}
 use Rattle.std.proofs.lemmas.Bool.Decides.{nat_tests}
@@ -16,7 +18,8 @@ use Rattle.std.specs.Simd.Lanes.{mask_l, pick_l, zip2, sel_l, top, Each1}
 use Rattle.encoding_kernels.specs.Scans.{HasLanes}
 use Rattle.encoding_kernels.specs.KeptBytes.{unit_places, length_classes, EncodesBy}
 use Rattle.encoding_kernels.proofs.MaskPartLemmas.{mask_append}
-use Rattle.encoding_kernels.proofs.VectorLemmas.{HasLanes-itself, HasLanes-numbers, HasLanes_same, HasLanes-splat, HasLanes-zip2, compared, firsts_are, mask_of, same_below, bytes_of_sixteen, sixteen_lanes, wide_sixteen, wide_sixteen_l}
+use Rattle.encoding_kernels.proofs.VectorLemmas.{HasLanes-itself, HasLanes-numbers, HasLanes_same, HasLanes-splat, HasLanes-zip2, compared}
+use Rattle.encoding_kernels.proofs.VectorLemmas.{firsts_are, mask_of, same_below, bytes_of_sixteen, sixteen_lanes, wide_sixteen, wide_sixteen_l}
 use Rattle.encoding_kernels.proofs.MaskLemmas.{HasTests, tests_of, chosen_by, none_passes, run_is_first, less_lanes, less_words}
 use Rattle.encoding_kernels.proofs.UniformLemmas.{mask_from, ones-none}
 use Rattle.encoding_kernels.proofs.CodeUnitLemmas.{picked_lanes}

@@ -1,5 +1,6 @@
 -- The words of a vector, moved by the indices of their bytes: to any lanes, and so that the last of eight follow others.
-use Rattle.std.proofs.Common.{◌≡◌, ℕ, zero, suc, ◌+◌, ◌-◌, ◌*◌, ◌/◌, ◌%◌, ◌^◌, ◌<◌, ◌≤◌, List, ◌++◌, length, take, drop, get_or, get_or-take, get_or-drop, length-append, length-drop, length-take-le, replicate, bit_and, sym, ap, ◌∙◌, arith, subst, w8}
+use Rattle.std.proofs.Common.{◌≡◌, ℕ, zero, suc, ◌+◌, ◌-◌, ◌*◌, ◌/◌, ◌%◌, ◌^◌, ◌<◌, ◌≤◌, List, ◌++◌, length, take, drop, get_or, get_or-take}
+use Rattle.std.proofs.Common.{get_or-drop, length-append, length-drop, length-take-le, replicate, bit_and, sym, ap, ◌∙◌, arith, subst, w8}
 use Rattle.std.specs.List.{range_with_len}
 use Rattle.std.specs.Simd.Lanes.{zip2, pick_l, Each1, digits_l, number_l}
 use Rattle.std.proofs.lemmas.Grind.{same_number_lists}
@@ -7,7 +8,8 @@ use Rattle.std.proofs.Math.Seq.{take-append-add}
 use Rattle.std.proofs.lemmas.Nat.{and_mask}
 use Rattle.std.proofs.lemmas.Simd.{swz_l, Each1-get_or, Each1-from_get_or, pick_l_whole}
 use Rattle.encoding_kernels.specs.Scans.{HasLanes}
-use Rattle.encoding_kernels.proofs.VectorLemmas.{HasLanes-itself, HasLanes-numbers, HasLanes-splat, HasLanes-swizzle, HasLanes-zip2, HasLanes_same, bytes_lanes, bytes_of, wide, wide_l}
+use Rattle.encoding_kernels.proofs.VectorLemmas.{HasLanes-itself, HasLanes-numbers, HasLanes-splat, HasLanes-swizzle}
+use Rattle.encoding_kernels.proofs.VectorLemmas.{HasLanes-zip2, HasLanes_same, bytes_lanes, bytes_of, wide, wide_l}
 
 digit_small : (n x i : ℕ) → get_or (digits_l 256 n x) i 0 < 256
 digit_small zero x i = omega arith

@@ -1,6 +1,8 @@
 -- Code units that are no surrogates: each is a character, and their UTF-8 is joined from what the stores write. What a
 -- store changes after its own bytes is overwritten by later ones.
-use Rattle.std.proofs.Common.{◌≡◌, ℕ, suc, ◌+◌, ◌-◌, ◌<◌, ◌≤◌, ◌⊎◌, inl, inr, List, [], ◌∷◌, ◌++◌, map, length, take, drop, take-add, length-take-le, length-append, get_or, encode_utf8_all, refl, sym, ap, ◌∙◌, arith, subst, drop-drop, take-append-drop, take-take, length-drop, append_assoc, ◌*◌, append-nil}
+use Rattle.std.proofs.Common.{◌≡◌, ℕ, suc, ◌+◌, ◌-◌, ◌<◌, ◌≤◌, ◌⊎◌, inl, inr, List, [], ◌∷◌, ◌++◌, map, length, take, drop}
+use Rattle.std.proofs.Common.{take-add, length-take-le, length-append, get_or, encode_utf8_all, refl, sym, ap, ◌∙◌, arith}
+use Rattle.std.proofs.Common.{subst, drop-drop, take-append-drop, take-take, length-drop, append_assoc, ◌*◌, append-nil}
 use Rattle.std.specs.List.{flat_map}
 use Rattle.std.specs.Str.{IsAscii}
 use Rattle.std.proofs.lemmas.Bool.{cases_lt}

@@ -1,6 +1,7 @@
 -- Units that may come in pairs: if each second unit follows a first one, and each first one precedes a second one, a
 -- prefix is whole, except for a first unit at its end.
-use Rattle.std.proofs.Common.{◌≡◌, ℕ, zero, suc, ◌+◌, ◌-◌, ◌^◌, ◌<◌, ◌≤◌, ◌↔◌, ◌⊎◌, inl, inr, Bool, true, false, not, cond, ◌||◌, ◌&&◌, eqb, leb, ltb, List, [], ◌∷◌, length, take, slice_index, bit_and, ◌%◌, drop, refl, sym, ap, ◌∙◌, arith, subst}
+use Rattle.std.proofs.Common.{◌≡◌, ℕ, zero, suc, ◌+◌, ◌-◌, ◌^◌, ◌<◌, ◌≤◌, ◌↔◌, ◌⊎◌, inl, inr, Bool, true, false, not, cond, ◌||◌, ◌&&◌, eqb}
+use Rattle.std.proofs.Common.{leb, ltb, List, [], ◌∷◌, length, take, slice_index, bit_and, ◌%◌, drop, refl, sym, ap, ◌∙◌, arith, subst}
 use Rattle.std.proofs.lemmas.Bool.{cases_lt, agree_below_at}
 use Rattle.std.proofs.lemmas.List.{get_or_past}
 use Rattle.std.proofs.lemmas.Bool.Decides.{nat_tests}
@@ -93,6 +94,9 @@ module _ (us : List ℕ) (n : ℕ) (within : n ≤ length us) (some : 0 < n) (un
 -- no units
 pub valid_start : (us : List ℕ) (n : ℕ) → n ≡ 0 → IsValidUtf16 (take n us)
 valid_start us n e = subst (λ m. IsValidUtf16 (take m us)) (sym e) valid_none
+
+-- before a pair that may be cut
+pub ruleset cut_pairs = (valid_start, valid_whole, valid_cut)
 
 pub paired_joined : (us : List ℕ) (a b from to : ℕ) → PairUp us a b → PairUp us from to → from ≤ b → PairUp us a to
 paired_joined us a b from to p q l = record { each = λ k h m. elim (cases_lt k b) [ inl i ↦ p.each k h i | inr i ↦ q.each k (omega arith) m ] }

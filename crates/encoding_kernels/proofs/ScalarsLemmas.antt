@@ -1,5 +1,6 @@
 -- Code units that are converted by their scalar values: step by step, and from parts that follow one another.
-use Rattle.std.proofs.Common.{◌≡◌, ℕ, suc, ◌+◌, ◌-◌, ◌<◌, ◌≤◌, ◌⊎◌, inl, inr, true, List, [], ◌∷◌, ◌++◌, length, map, take, drop, take-add, take-append-drop, get_or, encode_utf8, refl, sym, ap, ◌∙◌, arith, length-take, length-take-le, length-append}
+use Rattle.std.proofs.Common.{◌≡◌, ℕ, suc, ◌+◌, ◌-◌, ◌<◌, ◌≤◌, ◌⊎◌, inl, inr, true, List, [], ◌∷◌, ◌++◌, length, map, take, drop, take-add}
+use Rattle.std.proofs.Common.{take-append-drop, get_or, encode_utf8, refl, sym, ap, ◌∙◌, arith, length-take, length-take-le, length-append}
 use Rattle.std.specs.Char.{IsScalar}
 use Rattle.std.specs.Char.Escape.{encode_utf16}
 use Rattle.std.specs.Char.Utf16.{surrogate_pair_char}

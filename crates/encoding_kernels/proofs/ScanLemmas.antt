@@ -1,6 +1,7 @@
 -- Prefixes whose units are each of a kind, such as the ASCII prefix, and copies of a prefix. Scans by strides: those of a
 -- range by their index in the list, and what each adds to the prefix and writes.
-use Rattle.std.proofs.Common.{◌≡◌, ℕ, ◌+◌, ◌<◌, ◌≤◌, inl, inr, List, length, ◌++◌, take, drop, take-add, length-take-le, length-drop, set, slice_index, sym, arith, subst, zero, suc, ◌*◌, ◌/◌, drop-drop, get_or, refl, ap, ◌∙◌, ◌-◌, Some, [], ◌∷◌, min, None, Option, length-take}
+use Rattle.std.proofs.Common.{◌≡◌, ℕ, ◌+◌, ◌<◌, ◌≤◌, inl, inr, List, length, ◌++◌, take, drop, take-add, length-take-le, length-drop, set, slice_index, sym}
+use Rattle.std.proofs.Common.{arith, subst, zero, suc, ◌*◌, ◌/◌, drop-drop, get_or, refl, ap, ◌∙◌, ◌-◌, Some, [], ◌∷◌, min, None, Option, length-take}
 use Rattle.std.specs.Str.{IsAscii}
 use Rattle.std.proofs.lemmas.Bool.{cases_lt}
 use Rattle.std.proofs.lemmas.List.{get_or-take, get_or_past, length-take, take_more, get_or-drop, take_all, take-take}

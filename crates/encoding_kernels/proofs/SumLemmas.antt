@@ -1,6 +1,8 @@
 -- Lengths as sums over the indices of a list: one more index, the lanes of a vector, ASCII, whose terms are zero, and the
 -- terms of each encoding, lane by lane.
-use Rattle.std.proofs.Common.{Bool, ◌≡◌, ℕ, zero, suc, ◌+◌, ◌-◌, ◌*◌, ◌^◌, ◌<◌, ◌≤◌, inl, inr, List, [], ◌∷◌, ◌++◌, length, drop, get_or, slice_index, replicate, Fits, w8, cond, ltb, nat_le, refl, sym, ap, ◌∙◌, arith, length-drop, ◌%◌, true, false, not, ◌&&◌, eqb, leb, map, bit_and, w16}
+use Rattle.std.proofs.Common.{Bool, ◌≡◌, ℕ, zero, suc, ◌+◌, ◌-◌, ◌*◌, ◌^◌, ◌<◌, ◌≤◌, inl, inr, List, [], ◌∷◌, ◌++◌, length, drop, get_or, slice_index}
+use Rattle.std.proofs.Common.{replicate, Fits, w8, cond, ltb, nat_le, refl, sym, ap, ◌∙◌, arith, length-drop, ◌%◌, true, false, not, ◌&&◌, eqb, leb, map}
+use Rattle.std.proofs.Common.{bit_and, w16}
 use Rattle.std.specs.Simd.Lanes.{Each1, Each2, zip2, chunk, sum_l, sel_l, top}
 use Rattle.std.proofs.Math.Nat.{add-mul, mul-le-mul_right}
 use Rattle.std.proofs.lemmas.Bool.{cases_lt, cond-true, cond-false, le-ltb, lt-ltb, false≢true}
@@ -10,7 +12,8 @@ use Rattle.std.proofs.lemmas.Simd.{get_or-chunk, get_or-replicate, Each1-from_ge
 use Rattle.encoding_kernels.specs.declared.simd.sum.TheConstants.{BOUNDS}
 use Rattle.encoding_kernels.specs.Scans.{HasLanes}
 use mir.Val.{bool_byte}
-use Rattle.encoding_kernels.specs.Lengths.{sum_over_suffixes, one_if_at_least, continuations, continuations_by, extra_bytes, extra_bytes_by, goes_second, is_surrogate_pair, extra_bytes_by_few}
+use Rattle.encoding_kernels.specs.Lengths.{sum_over_suffixes, one_if_at_least, continuations, continuations_by, extra_bytes}
+use Rattle.encoding_kernels.specs.Lengths.{extra_bytes_by, goes_second, is_surrogate_pair, extra_bytes_by_few}
 use Rattle.encoding_definitions.specs.Utf16.{IsHighSurrogate, IsLowSurrogate}
 use Rattle.encoding_kernels.proofs.VectorLemmas.{HasLanes-itself, HasLanes_same, HasLanes-splat, HasLanes-zip2, compared}
 use Rattle.encoding_kernels.proofs.MaskLemmas.{chosen, chosen_by, tests_and, tests_of}
@@ -38,6 +41,9 @@ total_end f [] zero l = refl
 total_end f [] (suc i) l = refl
 total_end f (x ∷ xs) zero l = absurd (omega arith)
 total_end f (x ∷ xs) (suc i) l = total_end f xs i (omega arith)
+
+-- one index after the other
+pub ruleset single_terms = (total_end, total_next)
 
 -- ---- the lanes of a vector
 abbrev pub total_from : (List ℕ → ℕ) → List ℕ → ℕ → ℕ

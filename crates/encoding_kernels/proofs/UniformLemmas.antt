@@ -1,11 +1,14 @@
 -- The UTF-8 of code units that have the same number of bytes. Below U+0800: from both bytes of each and the indices that
 -- are kept. From U+0800 on: three bytes each.
-use Rattle.std.proofs.Common.{◌≡◌, ℕ, suc, ◌+◌, ◌*◌, ◌/◌, ◌%◌, ◌^◌, ◌<◌, ◌≤◌, Bool, true, false, cond, List, [], ◌∷◌, ◌++◌, map, length, take, get_or, encode_utf8_all, bit_and, replicate, refl, sym, ap, ◌∙◌, arith, subst, w16, zero, ◌-◌, eqb, IsTrue, not, encode_utf8, bit_or, drop, length-append, length-take-le, length-drop, append_assoc, Fits}
+use Rattle.std.proofs.Common.{◌≡◌, ℕ, suc, ◌+◌, ◌*◌, ◌/◌, ◌%◌, ◌^◌, ◌<◌, ◌≤◌, Bool, true, false, cond, List, [], ◌∷◌, ◌++◌, map, length}
+use Rattle.std.proofs.Common.{take, get_or, encode_utf8_all, bit_and, replicate, refl, sym, ap, ◌∙◌, arith, subst, w16, zero, ◌-◌, eqb}
+use Rattle.std.proofs.Common.{IsTrue, not, encode_utf8, bit_or, drop, length-append, length-take-le, length-drop, append_assoc, Fits}
 use Rattle.std.specs.Prelude.{nat_le}
 use Rattle.std.proofs.lemmas.Bool.Decides.{nat_tests}
 use Rattle.std.proofs.lemmas.Grind.{same_number_lists}
 use Rattle.std.proofs.lemmas.List.{length-map, get_or-map, take-map, take_all, take_at, drop_at, drop-drop, get_or_append_left, get_or-append_right}
-use Rattle.std.proofs.lemmas.Simd.{ones-mask_l_cons, swz_l, tops_compared, zip2_splat_left, mask_l-mod, Each1-get_or, length-put_chunk, pick_l_left, pick_l-range_with_len}
+use Rattle.std.proofs.lemmas.Simd.{ones-mask_l_cons, swz_l, tops_compared, zip2_splat_left, mask_l-mod}
+use Rattle.std.proofs.lemmas.Simd.{Each1-get_or, length-put_chunk, pick_l_left, pick_l-range_with_len}
 use Rattle.std.proofs.lemmas.Nat.{and_mask}
 use Rattle.std.proofs.lemmas.Str.{encode_ascii}
 use Rattle.std.proofs.str.Laws.{two, three}
@@ -16,7 +19,8 @@ use mir.Syntax.{Width, w8}
 use mir.Val.{hbits}
 use Rattle.encoding_kernels.specs.Scans.{HasLanes}
 use Rattle.encoding_kernels.specs.KeptBytes.{kept_places, EncodesTo}
-use Rattle.encoding_kernels.proofs.VectorLemmas.{HasLanes-itself, HasLanes-splat, HasLanes-zip2, HasLanes-swizzle, compared, mask_of, bytes_of_sixteen, sixteen_lanes, put_is, bytes_of, bytes_lanes}
+use Rattle.encoding_kernels.proofs.VectorLemmas.{HasLanes-itself, HasLanes-splat, HasLanes-zip2, HasLanes-swizzle, compared}
+use Rattle.encoding_kernels.proofs.VectorLemmas.{mask_of, bytes_of_sixteen, sixteen_lanes, put_is, bytes_of, bytes_lanes}
 use Rattle.encoding_kernels.proofs.MaskLemmas.{chosen_by, tests_of, none_passes, tests_or}
 use Rattle.std.proofs.lemmas.Bool.{eqb-false, or_parts}
 use Rattle.std.specs.List.{range_with_len}

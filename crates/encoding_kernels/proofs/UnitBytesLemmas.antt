@@ -1,6 +1,8 @@
 -- Code units of bytes: each by its index, eight or sixteen as a vector, and the bytes of code units.
-use Rattle.std.proofs.Common.{take-add, ◌≡◌, ℕ, zero, suc, ◌+◌, ◌-◌, ◌*◌, ◌/◌, ◌%◌, ◌^◌, ◌<◌, ◌≤◌, ◌⊎◌, Bool, true, false, List, [], ◌∷◌, ◌++◌, length, take, drop, get_or, refl, set, bit_or, inl, inr, sym, ap, ◌∙◌, arith, replicate, subst}
-use Rattle.std.proofs.lemmas.List.{get_or-take, get_or-drop, length-drop, length-take-le, take_more, take_all, take_at, take-take, length-append, drop_at, drop-drop, take-append-drop}
+use Rattle.std.proofs.Common.{take-add, ◌≡◌, ℕ, zero, suc, ◌+◌, ◌-◌, ◌*◌, ◌/◌, ◌%◌, ◌^◌, ◌<◌, ◌≤◌, ◌⊎◌, Bool, true, false, List, [], ◌∷◌}
+use Rattle.std.proofs.Common.{◌++◌, length, take, drop, get_or, refl, set, bit_or, inl, inr, sym, ap, ◌∙◌, arith, replicate, subst}
+use Rattle.std.proofs.lemmas.List.{get_or-take, get_or-drop, length-drop, length-take-le, take_more, take_all}
+use Rattle.std.proofs.lemmas.List.{take_at, take-take, length-append, drop_at, drop-drop, take-append-drop}
 use Rattle.std.proofs.Math.Seq.{drop-nil}
 use Rattle.std.proofs.lemmas.Grind.{same_number_lists}
 use Rattle.std.proofs.lemmas.Bool.{cases_lt, false≢true}

@@ -1,6 +1,7 @@
 -- The number of unpaired surrogates, as that of the faults between neighbors, with a low surrogate at the start as one
 -- more.
-use Rattle.std.proofs.Common.{◌≡◌, ℕ, zero, suc, ◌+◌, ◌-◌, ◌^◌, ◌<◌, ◌≤◌, ◌↔◌, IsTrue, inl, inr, Bool, true, false, not, cond, eqb, bit_and, bit_xor, List, [], ◌∷◌, ◌++◌, length, drop, map, replicate, slice_index, Fits, w8, w16, refl, sym, ap, ◌∙◌, arith, subst}
+use Rattle.std.proofs.Common.{◌≡◌, ℕ, zero, suc, ◌+◌, ◌-◌, ◌^◌, ◌<◌, ◌≤◌, ◌↔◌, IsTrue, inl, inr, Bool, true, false, not, cond, eqb, bit_and, bit_xor}
+use Rattle.std.proofs.Common.{List, [], ◌∷◌, ◌++◌, length, drop, map, replicate, slice_index, Fits, w8, w16, refl, sym, ap, ◌∙◌, arith, subst}
 use Rattle.std.specs.Simd.Lanes.{Each1, sel_l, top, zip2}
 use Rattle.std.specs.List.{flat_map}
 use Rattle.std.proofs.lemmas.Bool.{cases_lt}
@@ -11,7 +12,8 @@ use lib.Utf8.{scalar_cases}
 use mir.Val.{bool_byte}
 use Rattle.encoding_definitions.specs.Surrogates.{unpaired_count, HasUnpaired}
 use Rattle.encoding_definitions.specs.FirstScalar.{BeginsLow, IsFirstPart16}
-use Rattle.encoding_definitions.specs.Utf16.{AreCodeUnits, IsHighSurrogate, IsLowSurrogate, Part16, Character16, Unpaired, units_of_part16, ArePaired, ArePartsOf16}
+use Rattle.encoding_definitions.specs.Utf16.{AreCodeUnits, IsHighSurrogate, IsLowSurrogate, Part16, Character16}
+use Rattle.encoding_definitions.specs.Utf16.{Unpaired, units_of_part16, ArePaired, ArePartsOf16}
 use Rattle.encoding_definitions.proofs.Latin1Lemmas.{at_drop_start}
 use Rattle.encoding_definitions.proofs.UnpairedCountLemmas.{unpaired_count-cons, AreCodeUnits-after}
 use Rattle.encoding_definitions.proofs.Utf16Lemmas.{parts_of, parts_exist, halves, first_of_parts, tail_paired}

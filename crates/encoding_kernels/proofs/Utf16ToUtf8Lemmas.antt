@@ -1,6 +1,8 @@
 -- A conversion of a prefix of code units, step by step: surrogate pairs, whose UTF-8 is joined from the bytes of their
 -- units, and sixteen units without a surrogate.
-use Rattle.std.proofs.Common.{◌≡◌, ℕ, zero, suc, ◌+◌, ◌-◌, ◌<◌, ◌≤◌, ◌⊎◌, inl, inr, List, [], ◌∷◌, ◌++◌, length, take, drop, take-append-drop, drop-drop, get_or, encode_utf8, sym, ap, ◌∙◌, arith, subst, append_assoc, length-take, get_or-drop, refl, map, map-id, length-append, length-drop, replicate, get_or-take, encode_utf8_all, Fits, w8}
+use Rattle.std.proofs.Common.{◌≡◌, ℕ, zero, suc, ◌+◌, ◌-◌, ◌<◌, ◌≤◌, ◌⊎◌, inl, inr, List, [], ◌∷◌, ◌++◌, length, take, drop, take-append-drop}
+use Rattle.std.proofs.Common.{drop-drop, get_or, encode_utf8, sym, ap, ◌∙◌, arith, subst, append_assoc, length-take, get_or-drop, refl}
+use Rattle.std.proofs.Common.{map, map-id, length-append, length-drop, replicate, get_or-take, encode_utf8_all, Fits, w8}
 use Rattle.std.specs.List.{flat_map}
 use Rattle.std.specs.Char.Utf16.{surrogate_pair_char}
 use Rattle.std.proofs.lemmas.Bool.{cases_lt}
@@ -9,7 +11,8 @@ use Rattle.std.proofs.lemmas.List.{append-nil, length-append, get_or-drop, take_
 use Rattle.std.proofs.lemmas.List.Concat.{flat_map-append}
 use Rattle.std.proofs.str.Laws.{four}
 use Rattle.std.proofs.str.Utf16.{one_unit, two_units, IsPair}
-use Rattle.encoding_definitions.specs.Utf16.{AreCodeUnits, IsHighSurrogate, IsLowSurrogate, Part16, units_of_part16, utf8_of_part16, ArePartsOf16, IsUtf8OfPrefix, Character16}
+use Rattle.encoding_definitions.specs.Utf16.{AreCodeUnits, IsHighSurrogate, IsLowSurrogate, Part16, units_of_part16}
+use Rattle.encoding_definitions.specs.Utf16.{utf8_of_part16, ArePartsOf16, IsUtf8OfPrefix, Character16}
 use Rattle.encoding_kernels.specs.SurrogatePairs.{IsTwoByteOrHalf, AreTwoByteOrPaired, half_bytes, concatenated, halves_from}
 use Rattle.encoding_definitions.proofs.Utf16Lemmas.{parts_of, parts_exist, parts_unique, rest_parts}
 use Rattle.encoding_definitions.proofs.Utf16PrefixLemmas.{Walked, walked_prefix}
@@ -17,7 +20,8 @@ use borrow.Rule.Slice.PartMut.{put_mid}
 use Rattle.encoding_definitions.specs.Prefixes.{WritesPrefix}
 use Rattle.encoding_definitions.proofs.PrefixesLemmas.{WritesPrefix-nil, WritesPrefix-same, WritesPrefix_after, flat_map_push, written_is, written_prefix}
 use Rattle.encoding_kernels.specs.Utf8Output.{ConvertsPrefix, SpillsBmp, WritesBmp, WritesScalars, AreBmpScalars, Spills, StoresBlock}
-use Rattle.encoding_kernels.proofs.OverwriteLemmas.{due_none, due_paid, plain_walked, plain_written, plain_prefix, plain_then, utf8_plain, exact_spills, written_left}
+use Rattle.encoding_kernels.proofs.OverwriteLemmas.{due_none, due_paid, plain_walked, plain_written, plain_prefix}
+use Rattle.encoding_kernels.proofs.OverwriteLemmas.{plain_then, utf8_plain, exact_spills, written_left}
 use Rattle.std.proofs.lemmas.Simd.{Each1-from_get_or}
 use Rattle.std.proofs.lemmas.Str.{encodes-IsAscii}
 use Rattle.std.specs.Simd.Lanes.{put_chunk, Each1}

@@ -1,6 +1,8 @@
 -- The vector operations of the test, lane by lane: what the three lookups say about two adjacent bytes, and what a lane
 -- that is zero says about four.
-use Rattle.std.proofs.Common.{◌≡◌, ℕ, ◌+◌, ◌-◌, ◌*◌, ◌/◌, ◌<◌, ◌≤◌, ◌⊎◌, inl, inr, Bool, true, ◌&&◌, ◌||◌, ◌==◌, if◌then◌else◌, sym, subst, zero, suc, ◌∷◌, false, map, [], get_or, bit_and, bit_or, bit_xor, refl, arith, nat_le, nat_lt, eq-eqb, ◌%◌, ◌^◌, cond, ltb, List, ◌++◌, take, length, replicate, ap, ◌∙◌, w8, Fits}
+use Rattle.std.proofs.Common.{◌≡◌, ℕ, ◌+◌, ◌-◌, ◌*◌, ◌/◌, ◌<◌, ◌≤◌, ◌⊎◌, inl, inr, Bool, true, ◌&&◌, ◌||◌, ◌==◌, if◌then◌else◌}
+use Rattle.std.proofs.Common.{sym, subst, zero, suc, ◌∷◌, false, map, [], get_or, bit_and, bit_or, bit_xor, refl, arith, nat_le}
+use Rattle.std.proofs.Common.{nat_lt, eq-eqb, ◌%◌, ◌^◌, cond, ltb, List, ◌++◌, take, length, replicate, ap, ◌∙◌, w8, Fits}
 use Rattle.std.proofs.lemmas.Bool.{and_parts, cases_lt, true≢false}
 use Rattle.std.proofs.lemmas.Bool.Decides.{nat_tests}
 use Rattle.std.proofs.lemmas.Nat.Bits.{and_pow, bit_at_or}

@@ -1,6 +1,7 @@
 -- Writing the UTF-16 of a text character by character and block by block: what is still to be written, and the progress
 -- of a loop.
-use Rattle.std.proofs.Common.{◌≡◌, append_assoc, inl, inr, ◌⊎◌, slice_index, ℕ, zero, suc, ◌+◌, ◌-◌, ◌*◌, ◌/◌, ◌<◌, ◌≤◌, true, List, [], ◌∷◌, ◌++◌, length, take, drop, replicate, get_or, encode_utf8, encode_utf8_all, refl, sym, ap, ◌∙◌, arith, subst, take-add}
+use Rattle.std.proofs.Common.{◌≡◌, append_assoc, inl, inr, ◌⊎◌, slice_index, ℕ, zero, suc, ◌+◌, ◌-◌, ◌*◌, ◌/◌, ◌<◌, ◌≤◌, true, List, [], ◌∷◌, ◌++◌}
+use Rattle.std.proofs.Common.{length, take, drop, replicate, get_or, encode_utf8, encode_utf8_all, refl, sym, ap, ◌∙◌, arith, subst, take-add}
 use lib.Utf8.{scalar}
 use Rattle.std.specs.Char.{IsScalar}
 use Rattle.std.specs.Char.Escape.{encode_utf16}
@@ -11,7 +12,8 @@ use Rattle.std.proofs.Math.Seq.{drop-cons, take-append-add}
 use Rattle.std.proofs.lemmas.Bool.{and_parts, and_from, cases_lt}
 use Rattle.std.proofs.lemmas.Bool.Decides.{nat_tests}
 use Rattle.std.proofs.lemmas.Grind.{flat_map-append}
-use Rattle.std.proofs.lemmas.List.{append-nil, length-append, length-drop, length-take, length-take-le, take-take, take-append-drop, take_at, take_all, take_rest, drop_at, drop_all, drop-drop, get_or_append_left}
+use Rattle.std.proofs.lemmas.List.{append-nil, length-append, length-drop, length-take, length-take-le, take-take, take-append-drop}
+use Rattle.std.proofs.lemmas.List.{take_at, take_all, take_rest, drop_at, drop_all, drop-drop, get_or_append_left}
 use Rattle.std.proofs.lemmas.Str.{encodes-append, chars_from_encodes, length-encode, len_utf8_bounds, IsUtf8-nil}
 use borrow.Rule.Slice.PartMut.{put_mid}
 use Rattle.encoding_definitions.specs.Sequence.{IsSequence}

@@ -249,3 +249,8 @@ pub IsUtf8_ascii_prefix : (bs : List ℕ) (n : ℕ) → n ≤ length bs → ((i 
 IsUtf8_ascii_prefix bs n within ascii =
     IsUtf8_closed bs n within (ValidUpTo_ascii_prefix bs n ascii)
     (IsClosedAt-ascii bs 0 n (omega arith) (IsClosedAt-start bs) (record { each = λ i _ l. ascii i l }))
+
+-- before a character that may be cut
+pub ruleset boundaries = (IsUtf8_before, IsUtf8_closed, IsClosedAt_tests)
+
+pub ruleset ascii_prefixes = (IsUtf8_ascii_prefix, ValidUpTo_ascii_prefix)

@@ -1,8 +1,13 @@
 -- The value of each lane after the operations on vectors, and what the mask of a vector says about its lanes. A vector
 -- that is stored in a list at an index, and one that is read from a whole stride. Words of two bytes.
-use Rattle.std.proofs.Common.{◌≡◌, ℕ, ◌+◌, ◌≤◌, List, ◌++◌, length, take, drop, drop-drop, take-add, length-take, length-take-le, length-append, map, map-id, sym, ap, ◌∙◌, arith, append_assoc, suc, ◌-◌, ◌*◌, ◌/◌, ◌^◌, ◌%◌, ◌<◌, Bool, true, false, not, cond, ltb, inl, inr, [], ◌∷◌, get_or, replicate, refl, subst, length-drop, get_or-take, get_or-drop}
-use Rattle.std.proofs.lemmas.List.{take_all, take_at, drop_at, take-append-le, take-append-drop, length-map, get_or-map, drop-append-le, get_or_append_left, get_or-append_right, drop_more}
-use Rattle.std.proofs.lemmas.Simd.{put_chunk_is, length-chunk, chunk-drop, get_or-chunk, length-replicate, get_or-replicate, length-zip2, get_or-zip2, length-sel_l, get_or-sel_l, swz_l, SwzOk, length-swz_l, get_or-swz_l_below, SwzOk-from_below, Each1-from_get_or, mask_l-mod, leading_from_mask_l, get_or_wider, get_or_narrower}
+use Rattle.std.proofs.Common.{◌≡◌, ℕ, ◌+◌, ◌≤◌, List, ◌++◌, length, take, drop, drop-drop, take-add, length-take, length-take-le, length-append}
+use Rattle.std.proofs.Common.{map, map-id, sym, ap, ◌∙◌, arith, append_assoc, suc, ◌-◌, ◌*◌, ◌/◌, ◌^◌, ◌%◌, ◌<◌, Bool, true, false, not}
+use Rattle.std.proofs.Common.{cond, ltb, inl, inr, [], ◌∷◌, get_or, replicate, refl, subst, length-drop, get_or-take, get_or-drop}
+use Rattle.std.proofs.lemmas.List.{take_all, take_at, drop_at, take-append-le, take-append-drop, length-map}
+use Rattle.std.proofs.lemmas.List.{get_or-map, drop-append-le, get_or_append_left, get_or-append_right, drop_more}
+use Rattle.std.proofs.lemmas.Simd.{put_chunk_is, length-chunk, chunk-drop, get_or-chunk, length-replicate, get_or-replicate, length-zip2}
+use Rattle.std.proofs.lemmas.Simd.{get_or-zip2, length-sel_l, get_or-sel_l, swz_l, SwzOk, length-swz_l, get_or-swz_l_below, SwzOk-from_below}
+use Rattle.std.proofs.lemmas.Simd.{Each1-from_get_or, mask_l-mod, leading_from_mask_l, get_or_wider, get_or_narrower}
 use Rattle.std.proofs.lemmas.Slice.{drop-append-drop}
 use Rattle.std.specs.Simd.Lanes.{chunk, put_chunk, zip2, mask_l, top, sel_l, number_l, digits_l, Each1}
 use Rattle.std.proofs.lemmas.Bool.{cond-true, cond-false, cases_lt, lt-ltb, le-ltb, not-true, not-false}

@@ -1,5 +1,6 @@
 -- Right-to-left characters by their first bytes, and the indices of bytes and code units at which none begins.
-use Rattle.std.specs.Prelude.{◌≡◌, ℕ, ◌+◌, ◌-◌, ◌%◌, ◌^◌, ◌<◌, ◌≤◌, ◌&&◌, ◌||◌, Bool, not, List, ◌++◌, drop, encode_utf8, slice_index, if◌then◌else◌, nat_le, nat_lt, nat_eq}
+use Rattle.std.specs.Prelude.{◌≡◌, ℕ, ◌+◌, ◌-◌, ◌%◌, ◌^◌, ◌<◌, ◌≤◌, ◌&&◌, ◌||◌, Bool, not, List, ◌++◌}
+use Rattle.std.specs.Prelude.{drop, encode_utf8, slice_index, if◌then◌else◌, nat_le, nat_lt, nat_eq}
 use Rattle.std.specs.Char.{IsScalar}
 use Rattle.encoding_definitions.specs.Bidi.{IsRightToLeft, IsRightToLeftUnit}
 

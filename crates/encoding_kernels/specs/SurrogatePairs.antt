@@ -1,5 +1,6 @@
 -- Steps of a conversion to UTF-8 by vectors: code units below U+0800 and surrogate pairs, with two bytes for each half.
-use Rattle.std.specs.Prelude.{◌≡◌, ℕ, zero, suc, ◌+◌, ◌-◌, ◌*◌, ◌/◌, ◌%◌, ◌<◌, ◌≤◌, ◌⊎◌, ◌↔◌, List, [], ◌∷◌, ◌++◌, if◌then◌else◌, nat_lt, nat_le, encode_utf8, slice_index}
+use Rattle.std.specs.Prelude.{◌≡◌, ℕ, zero, suc, ◌+◌, ◌-◌, ◌*◌, ◌/◌, ◌%◌, ◌<◌, ◌≤◌, ◌⊎◌, ◌↔◌, List, []}
+use Rattle.std.specs.Prelude.{◌∷◌, ◌++◌, if◌then◌else◌, nat_lt, nat_le, encode_utf8, slice_index}
 use Rattle.encoding_definitions.specs.Utf16.{IsHighSurrogate, IsLowSurrogate}
 
 -- the code unit is below U+0800, or a surrogate

@@ -1,8 +1,9 @@
-//! Single characters: the bytes of a sequence, one byte at a time (the nine rows of the Unicode Standard, Table 3-7), scalar
-//! values in UTF-8 and UTF-16, and surrogates (section 3.9, UTF-16). A function that writes leaves the rest of `dst`
-//! unchanged.
+//! Single characters: the bytes of a sequence, one byte at a time (the nine rows of the Unicode Standard, Table 3-7),
+//! scalar values in UTF-8 and UTF-16, and surrogates (section 3.9, UTF-16). A function that writes leaves the rest of
+//! `dst` unchanged.
 
-ghost use Rattle.std.specs.Prelude.{◌≡◌, ℕ, ◌+◌, ◌↔◌, List, [], ◌∷◌, length, IsTrue, ◌<◌, ◌≤◌, encode_utf8, IfSome, IfNone};
+ghost use Rattle.std.specs.Prelude.{◌≡◌, ℕ, ◌+◌, ◌↔◌, List, [], ◌∷◌, length, IsTrue};
+ghost use Rattle.std.specs.Prelude.{◌<◌, ◌≤◌, encode_utf8, IfSome, IfNone};
 ghost use Rattle.encoding_definitions.specs.Sequence.{IsSequence, IsIncomplete, IsSecond, IsContinuation};
 ghost use Rattle.std.specs.Char.{IsScalar, len_utf8};
 ghost use Rattle.std.specs.Char.Escape.{encode_utf16};
@@ -19,14 +20,12 @@ pub const REPLACEMENT_UNIT: u16 = 0xFFFD;
 /// The UTF-8 of U+FFFD.
 pub const REPLACEMENT_UTF8: [u8; 3] = [0xEF, 0xBF, 0xBD];
 
-/// Returns whether the byte begins a sequence of several bytes.
 pub fn begins_several(byte: u8) -> bool
     ensures { IsTrue result ↔ IsIncomplete (byte ∷ []) }
 {
     byte.wrapping_sub(0xC2) < 0x33
 }
 
-/// Returns whether the byte may be the second of a sequence of several that begins with `lead`.
 pub fn is_second(lead: u8, byte: u8) -> bool
     ensures { IsTrue result ↔ IsSecond lead byte }
 {
@@ -41,14 +40,12 @@ pub fn is_second(lead: u8, byte: u8) -> bool
     least <= byte && byte <= greatest
 }
 
-/// Returns whether the byte is a continuation byte, which may follow the second byte of a sequence.
 pub fn is_continuation(byte: u8) -> bool
     ensures { IsTrue result ↔ IsContinuation byte }
 {
     byte & 0xC0 == 0x80
 }
 
-/// Returns the length of the sequences that begin with the byte.
 pub fn sequence_length(lead: u8) -> usize
     ensures { (rest : List ℕ) → IsSequence (lead ∷ rest) → result ≡ 1 + length rest }
 {
@@ -60,7 +57,6 @@ pub fn sequence_length(lead: u8) -> usize
     }
 }
 
-/// Returns the scalar value that the bytes encode.
 #[inline(always)]
 pub fn decode_utf8_scalar(bytes: &[u8]) -> u32
     requires sequence { IsSequence bytes.now }
@@ -81,8 +77,6 @@ pub fn decode_utf8_scalar(bytes: &[u8]) -> u32
     }
 }
 
-/// Writes the UTF-16 of the scalar value to the start of `dst`, and returns its length, or returns `None` if it doesn't
-/// fit.
 #[inline(always)]
 pub fn write_utf16(scalar: u32, dst: &mut [u16]) -> Option<usize>
     requires scalar { IsScalar scalar }
@@ -106,7 +100,6 @@ pub fn write_utf16(scalar: u32, dst: &mut [u16]) -> Option<usize>
     Some(2)
 }
 
-/// Returns the number of code units in the UTF-16 of a scalar value.
 #[inline(always)]
 pub fn utf16_length(scalar: u32) -> usize
     ensures { result ≡ length (encode_utf16 scalar) }
@@ -114,7 +107,6 @@ pub fn utf16_length(scalar: u32) -> usize
     if scalar < 0x10000 { 1 } else { 2 }
 }
 
-/// Returns the number of bytes in the UTF-8 of a scalar value.
 #[inline(always)]
 pub fn utf8_length(scalar: u32) -> usize
     ensures { result ≡ len_utf8 scalar }
@@ -127,7 +119,6 @@ pub fn utf8_length(scalar: u32) -> usize
     }
 }
 
-/// Writes the UTF-8 of a scalar value to the start of `dst`, and returns its length.
 #[inline(always)]
 pub fn write_scalar(scalar: u32, dst: &mut [u8]) -> usize
     requires scalar { scalar < 0x110000 }
@@ -158,7 +149,6 @@ pub fn write_scalar(scalar: u32, dst: &mut [u8]) -> usize
     4
 }
 
-/// Returns whether the code unit is a surrogate.
 #[inline(always)]
 pub fn is_surrogate(unit: u16) -> bool
     ensures { IsTrue result ↔ ((0xD800 ≤ unit) × (unit ≤ 0xDFFF)) }
@@ -166,7 +156,6 @@ pub fn is_surrogate(unit: u16) -> bool
     unit & 0xF800 == 0xD800
 }
 
-/// Returns whether the code unit is a high surrogate, the first of a pair.
 #[inline(always)]
 pub fn is_high_surrogate(unit: u16) -> bool
     ensures { IsTrue result ↔ IsHighSurrogate unit }
@@ -174,7 +163,6 @@ pub fn is_high_surrogate(unit: u16) -> bool
     unit & 0xFC00 == 0xD800
 }
 
-/// Returns whether the code unit is a low surrogate, the second of a pair.
 #[inline(always)]
 pub fn is_low_surrogate(unit: u16) -> bool
     ensures { IsTrue result ↔ IsLowSurrogate unit }
@@ -182,7 +170,6 @@ pub fn is_low_surrogate(unit: u16) -> bool
     unit & 0xFC00 == 0xDC00
 }
 
-/// Returns the scalar value of a surrogate pair.
 #[inline(always)]
 pub fn pair_scalar(high: u16, low: u16) -> u32
     requires high { IsHighSurrogate high }

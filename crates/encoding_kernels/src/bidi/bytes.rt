@@ -1,13 +1,14 @@
-//! Right-to-left characters in UTF-8 by blocks: look-ups show that none begins in a block. Six tables, by the nibbles of three
-//! adjacent bytes, each leave some groups possible. A group has a bit, and a character of it begins with the three bytes only if
-//! all six leave it. Fewer bytes than a block are tested by ranges.
+//! Right-to-left characters in UTF-8 by blocks: look-ups show that none begins in a block. Six tables, by the nibbles
+//! of three adjacent bytes, each leave some groups possible. A group has a bit, and a character of it begins with the
+//! three bytes only if all six leave it. Fewer bytes than a block are tested by ranges.
 
 ghost use Rattle.std.specs.Prelude.{◌≡◌, ℕ, false, ◌+◌, ◌-◌, ◌<◌, ◌≤◌, length, slice_index, IsTrue};
-ghost use Rattle.encoding_kernels.specs.RightToLeft.{RtlAt, NoRtlIn, rtl_second_end, rtl_mark_lead, may_start_rtl, HasNoRtlAt};
+ghost use Rattle.encoding_kernels.specs.RightToLeft.{RtlAt, NoRtlIn, rtl_second_end};
+ghost use Rattle.encoding_kernels.specs.RightToLeft.{rtl_mark_lead, may_start_rtl, HasNoRtlAt};
 ghost use Rattle.encoding_kernels.specs.Scans.{HasLanes};
 
-use crate::simd::lookup::twice;
-use crate::simd::scan::{AllPass, Test, is_zero, reach, skip};
+use crate::simd::lookup::table;
+use crate::simd::scan::{AllPass, Test, is_zero, skip, skip_to_end};
 use crate::simd::width::{BLOCK, STRIDE};
 use crate::tuning::{LOW_BYTES, MOST_BYTE_BLOCKS};
 use std::simd::Simd;
@@ -51,7 +52,7 @@ const ANY_THIRD: u8 = TWO_BYTES | FROM_0800 | FORMS_FB00 | FORMS_FC00;
 const ANY_THIRD_LOW: u8 = ANY_THIRD | FOUR_BYTES;
 
 /// The groups that the high nibble of the first byte leaves possible.
-const FIRST_HIGH: [u8; 32] = twice![
+const FIRST_HIGH: [u8; 32] = table![nibbles
     0,
     0,
     0,
@@ -71,7 +72,7 @@ const FIRST_HIGH: [u8; 32] = twice![
 ];
 
 /// The groups that the low nibble of the first byte leaves possible.
-const FIRST_LOW: [u8; 32] = twice![
+const FIRST_LOW: [u8; 32] = table![nibbles
     FROM_0800 | FOUR_BYTES,
     0,
     MARK | EMBEDDINGS | ISOLATE,
@@ -91,7 +92,7 @@ const FIRST_LOW: [u8; 32] = twice![
 ];
 
 /// The groups that the high nibble of the second byte leaves possible.
-const SECOND_HIGH: [u8; 32] = twice![
+const SECOND_HIGH: [u8; 32] = table![nibbles
     TWO_BYTES,
     TWO_BYTES,
     TWO_BYTES,
@@ -111,7 +112,7 @@ const SECOND_HIGH: [u8; 32] = twice![
 ];
 
 /// The groups that the low nibble of the second byte leaves possible.
-const SECOND_LOW: [u8; 32] = twice![
+const SECOND_LOW: [u8; 32] = table![nibbles
     TWO_BYTES | FROM_0800 | MARK | EMBEDDINGS | FORMS_FC00 | FOUR_BYTES,
     TWO_BYTES | FROM_0800 | ISOLATE | FORMS_FC00,
     TWO_BYTES | FROM_0800 | FORMS_FC00,
@@ -131,7 +132,7 @@ const SECOND_LOW: [u8; 32] = twice![
 ];
 
 /// The groups that the high nibble of the third byte leaves possible.
-const THIRD_HIGH: [u8; 32] = twice![
+const THIRD_HIGH: [u8; 32] = table![nibbles
     ANY_THIRD,
     ANY_THIRD,
     ANY_THIRD,
@@ -151,7 +152,7 @@ const THIRD_HIGH: [u8; 32] = twice![
 ];
 
 /// The groups that the low nibble of the third byte leaves possible.
-const THIRD_LOW: [u8; 32] = twice![
+const THIRD_LOW: [u8; 32] = table![nibbles
     ANY_THIRD_LOW,
     ANY_THIRD_LOW,
     ANY_THIRD_LOW,
@@ -170,8 +171,7 @@ const THIRD_LOW: [u8; 32] = twice![
     ANY_THIRD_LOW | MARK,
 ];
 
-/// Returns the groups of the 32 indices from `at` on, by the bytes at each and the two that follow. A lane is zero only if no
-/// right-to-left character is at its index.
+/// The groups that all six tables leave possible, by the bytes at each index and the two that follow.
 #[inline(always)]
 fn groups_of_32(bytes: &[u8], at: usize) -> u8x32
     requires { at + 34 ≤ length bytes.now }
@@ -191,8 +191,8 @@ fn groups_of_32(bytes: &[u8], at: usize) -> u8x32
     by_first & by_second & by_third
 }
 
-/// Returns whether no right-to-left character is at the 64 indices from `at` on. May return false if there is one of U+0580
-/// to U+058F, U+FB00 to U+FB1C, U+FE40 to U+FE6F, or U+FEFF, or bytes that aren't well-formed.
+/// May return false if there is one of U+0580 to U+058F, U+FB00 to U+FB1C, U+FE40 to U+FE6F, or U+FEFF, or
+/// bytes that aren't well-formed.
 #[inline(always)]
 fn are_64_clear(bytes: &[u8], at: usize) -> bool
     requires { at + 66 ≤ length bytes.now }
@@ -203,8 +203,8 @@ fn are_64_clear(bytes: &[u8], at: usize) -> bool
     is_zero(first | second)
 }
 
-/// Returns, for each lane, the first byte of a right-to-left mark if one may end with it; else 0xF0, with which other
-/// right-to-left characters begin in any case.
+/// Returns, for each lane, the first byte of a right-to-left mark if one may end with it; else 0xF0, with
+/// which other right-to-left characters begin in any case.
 #[inline(always)]
 fn mark_leads<const N: usize>(third: Simd<u8, N>) -> Simd<u8, N>
     ensures { HasLanes N result (λ k. rtl_mark_lead (slice_index third.entry k)) }
@@ -216,8 +216,8 @@ fn mark_leads<const N: usize>(third: Simd<u8, N>) -> Simd<u8, N>
     ends_mark.select(Simd::splat(PUNCTUATION_LEAD), Simd::splat(0xF0))
 }
 
-/// Returns, for each lane, an exclusive bound of the second byte of the right-to-left characters that begin with it; 0
-/// if there are none.
+/// Returns, for each lane, an exclusive bound of the second byte of the right-to-left characters that begin
+/// with it; 0 if there are none.
 #[inline(always)]
 fn second_ends<const N: usize>(first: Simd<u8, N>, third: Simd<u8, N>) -> Simd<u8, N>
     ensures { HasLanes N result
@@ -250,7 +250,8 @@ struct LowBytes<'a> {
 impl<'a> Test for LowBytes<'a> {
     ghost count = { λ s. length s.bytes.now - 2 };
 
-    ghost passes = { λ s k. may_start_rtl (slice_index s.bytes.now k) (rtl_mark_lead (slice_index s.bytes.now (k + 2))) ≡ false };
+    ghost passes = { λ s k. may_start_rtl (slice_index s.bytes.now k)
+        (rtl_mark_lead (slice_index s.bytes.now (k + 2))) ≡ false };
 }
 
 impl<'a, const N: usize> AllPass<N, N> for LowBytes<'a> {
@@ -288,9 +289,7 @@ impl<'a, const N: usize> AllPass<N, N> for ClearBytes<'a> {
     }
 }
 
-/// Skips blocks of bytes from `from` on in which no right-to-left character begins, and returns the index that it reaches.
-///
-/// Where low bytes are rare, they are tested for less often.
+/// Skips blocks. If low bytes are rare, they are tested for less often.
 pub fn skip_clear(bytes: &[u8], from: usize) -> usize
     requires { from ≤ length bytes.now }
     ensures within { (from ≤ result) × (result ≤ length bytes.now) }
@@ -318,5 +317,5 @@ pub fn skip_clear(bytes: &[u8], from: usize) -> usize
     if bytes.len() - at < 2 {
         return at;
     }
-    reach::<STRIDE, STRIDE, _>(&ClearBytes { bytes }, at, bytes.len() - 2)
+    skip_to_end::<STRIDE, STRIDE, _>(&ClearBytes { bytes }, at, bytes.len() - 2)
 }

@@ -1,6 +1,6 @@
-//! Right-to-left UTF-16 code units by blocks: look-ups show that a block has none. Four tables, by the four nibbles of a code unit,
-//! each leave some groups possible. A group has a bit, and holds the unit if all four leave it. Fewer units than a block are tested
-//! by ranges.
+//! Right-to-left UTF-16 code units by blocks: look-ups show that a block has none. Four tables, by the four nibbles
+//! of a code unit, each leave some groups possible. A group has a bit, and holds the unit if all four leave it. Fewer
+//! units than a block are tested by ranges.
 
 ghost use Rattle.std.specs.Prelude.{◌≡◌, false, ℕ, ◌+◌, ◌*◌, ◌/◌, ◌%◌, ◌<◌, ◌≤◌, length, slice_index, IsTrue, bit_and};
 ghost use Rattle.std.specs.Int.{IsInRange};
@@ -8,8 +8,8 @@ ghost use Rattle.encoding_definitions.specs.Bidi.{IsRightToLeftUnit};
 ghost use Rattle.encoding_kernels.specs.RightToLeft.{NoneRightToLeft, in_range, may_be_right_to_left};
 ghost use Rattle.encoding_kernels.specs.Scans.{HasLanes};
 
-use crate::simd::lookup::twice;
-use crate::simd::scan::{AllPass, Test, is_zero, reach, skip};
+use crate::simd::lookup::table;
+use crate::simd::scan::{AllPass, Test, is_zero, skip, skip_to_end};
 use crate::simd::units::UnitsBelow;
 use crate::simd::width::{HALF_UNIT_BLOCK, STRIDE, UNIT_STRIDE};
 use crate::tuning::{LOW_UNITS, MOST_UNIT_BLOCKS};
@@ -34,8 +34,8 @@ const EMBEDDINGS: u8 = 1 << 3;
 /// 2067.
 const ISOLATE: u8 = 1 << 4;
 
-/// D802, D803, D83A and D83B, the high surrogates of U+10800 to U+10FFF and of U+1E800 to U+1EFFF, and also D80A, D80B, D832 and
-/// D833.
+/// D802, D803, D83A and D83B, the high surrogates of U+10800 to U+10FFF and of U+1E800 to U+1EFFF, and also D80A,
+/// D80B, D832 and D833.
 const HIGH_SURROGATES: u8 = 1 << 5;
 
 /// FB10 to FBFF, FC10 to FCFF, FD10 to FDFF, and FE10 to FEFF.
@@ -54,7 +54,7 @@ const ANY_THIRD: u8 = ARABIC | FORMS;
 const ANY_FOURTH: u8 = HEBREW | ARABIC | FORMS | FIRST_FORMS;
 
 /// The groups that the first nibble leaves possible.
-const FIRST: [u8; 32] = twice![
+const FIRST: [u8; 32] = table![nibbles
     HEBREW | ARABIC,
     0,
     MARK | EMBEDDINGS | ISOLATE,
@@ -74,7 +74,7 @@ const FIRST: [u8; 32] = twice![
 ];
 
 /// The groups that the second nibble leaves possible.
-const SECOND: [u8; 32] = twice![
+const SECOND: [u8; 32] = table![nibbles
     MARK | EMBEDDINGS | ISOLATE,
     0,
     0,
@@ -94,7 +94,7 @@ const SECOND: [u8; 32] = twice![
 ];
 
 /// The groups that the third nibble leaves possible.
-const THIRD: [u8; 32] = twice![
+const THIRD: [u8; 32] = table![nibbles
     ARABIC | MARK | HIGH_SURROGATES | FIRST_FORMS,
     ANY_THIRD,
     ANY_THIRD | EMBEDDINGS,
@@ -114,7 +114,7 @@ const THIRD: [u8; 32] = twice![
 ];
 
 /// The groups that the fourth nibble leaves possible.
-const FOURTH: [u8; 32] = twice![
+const FOURTH: [u8; 32] = table![nibbles
     ANY_FOURTH,
     ANY_FOURTH,
     ANY_FOURTH | HIGH_SURROGATES,
@@ -133,8 +133,7 @@ const FOURTH: [u8; 32] = twice![
     ANY_FOURTH | MARK,
 ];
 
-/// Returns the groups of 32 code units by their upper and lower bytes. A lane is zero only if the code unit isn't
-/// right-to-left, and has none but the groups of forms only if no other right-to-left code unit is there.
+/// The groups that all four tables leave possible, by the upper and lower bytes of 32 code units.
 #[inline(always)]
 fn groups_of_32(upper: u8x32, lower: u8x32) -> u8x32
     ensures length { length result ≡ 32 }
@@ -152,7 +151,6 @@ fn groups_of_32(upper: u8x32, lower: u8x32) -> u8x32
     by_upper & by_lower
 }
 
-/// Returns the upper and the lower bytes of the 32 code units from `at` on.
 #[inline(always)]
 fn bytes_of_32(units: &[u16], at: usize) -> (u8x32, u8x32)
     requires { at + 32 ≤ length units.now }
@@ -189,9 +187,9 @@ impl<'a, const N: usize> AllPass<N, N> for NoForms<'a> {
     }
 }
 
-/// Returns whether none of the 32 code units from `at` on is right-to-left. `FORMS_BY_RANGE` tests presentation forms by their
-/// range and not by the tables. May return false if there is one of D80A, D80B, D832, D833, or FE10 to FE6F. By the tables it may
-/// also for FB10 to FB1C and FEFF, and by the range for FE00 to FE0F.
+/// `FORMS_BY_RANGE` tests presentation forms by their range and not by the tables. May return false if there
+/// is one of D80A, D80B, D832, D833, or FE10 to FE6F. By the tables it may also for FB10 to FB1C and FEFF,
+/// and by the range for FE00 to FE0F.
 #[inline(always)]
 fn are_32_clear<const FORMS_BY_RANGE: bool>(units: &[u16], at: usize) -> bool
     requires { at + 32 ≤ length units.now }
@@ -237,7 +235,6 @@ impl<'a, const N: usize> AllPass<N, N> for ClearUnits<'a> {
     }
 }
 
-/// Skips blocks as `skip_clear_unit_blocks` does, and tests each one's presentation forms by their range.
 #[inline(always)]
 fn skip_unit_blocks_by_range(units: &[u16], from: usize, end: usize) -> usize
     requires { (from ≤ end) × (end ≤ length units.now) }
@@ -251,8 +248,6 @@ fn skip_unit_blocks_by_range(units: &[u16], from: usize, end: usize) -> usize
     at
 }
 
-/// Skips blocks of code units from `from` on, no farther than `end`, that aren't right-to-left, and returns the index that
-/// it reaches.
 #[inline(always)]
 fn skip_clear_unit_blocks(units: &[u16], from: usize, end: usize) -> usize
     requires { (from ≤ end) × (end ≤ length units.now) }
@@ -270,10 +265,8 @@ fn skip_clear_unit_blocks(units: &[u16], from: usize, end: usize) -> usize
     at
 }
 
-/// Skips blocks of code units from `from` on that aren't right-to-left, and returns the index that it reaches, which may be
-/// the end of a block that the look-ups don't rule out. Out of line, since most short texts have only low units.
-///
-/// Where low units are rare, they are tested for less often.
+/// Out of line, since most short texts have only low units. If low units are rare, they are tested for less
+/// often.
 #[inline(never)]
 pub fn skip_clear_units(units: &[u16], from: usize) -> usize
     requires { from ≤ length units.now }
@@ -302,5 +295,5 @@ pub fn skip_clear_units(units: &[u16], from: usize) -> usize
     }
     // no farther than a block: the ranges rule out some units that the look-ups don't, and the text goes on after them
     let end = at + HALF_UNIT_BLOCK.min(units.len() - at);
-    reach::<UNIT_STRIDE, UNIT_STRIDE, _>(&ClearUnits { units }, at, end)
+    skip_to_end::<UNIT_STRIDE, UNIT_STRIDE, _>(&ClearUnits { units }, at, end)
 }

@@ -1,6 +1,8 @@
-//! Latin1 of sixteen and of 32 bytes of UTF-8: the kept bytes of pairs are looked up by a mask, as in the other direction.
+//! Latin1 of sixteen and of 32 bytes of UTF-8: the kept bytes of pairs are looked up by a mask, as in the other
+//! direction.
 
-ghost use Rattle.std.specs.Prelude.{◌≡◌, ℕ, ◌+◌, ◌*◌, ◌<◌, ◌≤◌, ◌⊎◌, ◌∷◌, ◌++◌, length, take, drop, replicate, slice_index};
+ghost use Rattle.std.specs.Prelude.{◌≡◌, ℕ, ◌+◌, ◌*◌, ◌<◌, ◌≤◌, ◌⊎◌, ◌∷◌, ◌++◌};
+ghost use Rattle.std.specs.Prelude.{length, take, drop, replicate, slice_index};
 ghost use Rattle.std.specs.Simd.Lanes.{mask_l};
 ghost use Rattle.encoding_kernels.specs.KeptBytes.{EndsPair, all_latin1_ended, both_end};
 
@@ -10,8 +12,7 @@ use crate::simd::width::{HALF_STRIDE, STRIDE};
 use crate::utf8::validate::{lanes_before, with_zeros};
 use std::simd::prelude::*;
 
-/// Returns for each pair of bytes the Latin1 bytes that its bytes end, given the byte before each byte. If they end one,
-/// the second is arbitrary.
+/// If a pair of bytes ends one byte of Latin1, the second is arbitrary.
 #[inline(always)]
 fn ended_pairs(before: u8x16, block: u8x16) -> u8x16
     ensures lane_count { length result ≡ 16 }
@@ -28,7 +29,7 @@ fn ended_pairs(before: u8x16, block: u8x16) -> u8x16
     begins.select(words >> u16x8::splat(8), words).to_le_bytes()
 }
 
-/// Returns the mask of the pairs of bytes that each end a byte of Latin1.
+/// The mask of the pairs that each end a byte of Latin1.
 #[tactic(auto, using(crate::proofs::Latin1FromUtf8Lemmas::mask_ends, crate::proofs::Latin1FromUtf8Lemmas::mask_small))]
 #[inline(always)]
 fn mask_of_ends(block: u8x16) -> usize
@@ -40,7 +41,6 @@ fn mask_of_ends(block: u8x16) -> usize
     (first & words.simd_lt(u16x8::splat(0xC000))).to_bitmask() as usize
 }
 
-/// Returns what `latin1_of_after` does: at least eight bytes.
 #[inline(always)]
 fn ended_latin1(before: u8x16, block: u8x16) -> (u8x16, usize)
     requires { (k : ℕ) → (slice_index block k < 0xC0) ⊎ (slice_index block (k + 1) < 0xC0) }
@@ -53,8 +53,7 @@ fn ended_latin1(before: u8x16, block: u8x16) -> (u8x16, usize)
     keep_pairs(ended_pairs(before, block), mask_of_ends(block))
 }
 
-/// Returns the Latin1 bytes that sixteen bytes of UTF-8 end, at the start of the vector, and their number, given the byte
-/// before each byte. No two adjacent bytes both begin a character of two bytes.
+/// The Latin1 bytes at the start of the vector, and their number.
 #[inline(always)]
 pub fn latin1_of_after(before: u8x16, block: u8x16) -> (u8x16, usize)
     requires { (k : ℕ) → (slice_index block k < 0xC0) ⊎ (slice_index block (k + 1) < 0xC0) }
@@ -67,11 +66,8 @@ pub fn latin1_of_after(before: u8x16, block: u8x16) -> (u8x16, usize)
     ended_latin1(before, block)
 }
 
-/// Writes the Latin1 bytes that the 32 bytes of UTF-8 from `from` on end, which start with a character, and returns their
-/// number. No two adjacent bytes both begin a character of two bytes. The rest of `dst` is unchanged.
-///
-/// What follows is loaded before the stores and stored after them. A load that overlaps the store before it would wait until
-/// that is in the cache.
+/// What follows is loaded before the stores and stored after them. A load that overlaps the store before it
+/// would wait until that is in the cache.
 #[inline(always)]
 pub fn write_latin1_of_two(src: &[u8], from: usize, dst: &mut [u8], at: usize) -> usize
     requires within { from + 32 ≤ length src.now }
@@ -95,8 +91,6 @@ pub fn write_latin1_of_two(src: &[u8], from: usize, dst: &mut [u8], at: usize) -
     count + more
 }
 
-/// Returns the Latin1 of sixteen bytes of UTF-8 that start with a character, at the start of the vector, and its
-/// length. No two adjacent bytes both begin a character of two bytes.
 #[inline(always)]
 pub fn latin1_of(block: u8x16) -> (u8x16, usize)
     requires { (k : ℕ) → (slice_index block k < 0xC0) ⊎ (slice_index block (k + 1) < 0xC0) }
@@ -107,7 +101,6 @@ pub fn latin1_of(block: u8x16) -> (u8x16, usize)
     latin1_of_after(lanes_before(block).2, block)
 }
 
-/// Returns how many bytes of Latin1 the first `count` of sixteen bytes of UTF-8 end.
 #[inline(always)]
 pub fn latin1_length_of_first(block: u8x16, count: usize) -> usize
     requires { count ≤ 16 }
@@ -117,7 +110,7 @@ pub fn latin1_length_of_first(block: u8x16, count: usize) -> usize
     count - leads.count_ones() as usize
 }
 
-/// Returns at most sixteen bytes, followed by zeros. Fewer than eight are copied into an array, since they fill no vector.
+/// Fewer than eight are copied into an array, since they fill no vector.
 #[inline(always)]
 pub fn few_with_zeros(src: &[u8]) -> u8x16
     requires { length src.now ≤ 16 }

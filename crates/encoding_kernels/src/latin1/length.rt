@@ -57,7 +57,6 @@ impl<'a, const N: usize> Terms<N> for BeyondAscii<'a> {
     ghost few = { λ _ xs. one_few 0x80 xs };
 }
 
-/// Counts the bytes that aren't ASCII.
 #[tactic(auto, using(crate::proofs::SumLemmas::ones_most))]
 #[inline(always)]
 fn count_beyond_ascii(bytes: &[u8]) -> usize
@@ -68,7 +67,6 @@ fn count_beyond_ascii(bytes: &[u8]) -> usize
     sum_from::<BLOCK, STRIDE, LATIN1_LENGTH_SPAN, _, _>(&terms, &terms, 0)
 }
 
-/// Returns the length in bytes of the UTF-8 of the bytes as Latin1.
 #[tactic(auto, using(crate::proofs::LengthLemmas::latin1_total))]
 pub fn utf8_length_of_latin1(bytes: &[u8]) -> usize
     ensures { result ≡ length (encode_utf8_all bytes.now) }
@@ -76,8 +74,8 @@ pub fn utf8_length_of_latin1(bytes: &[u8]) -> usize
     bytes.len() + count_beyond_ascii(bytes)
 }
 
-/// Returns the number of characters of Latin1 text in UTF-8. Each has one byte if it is ASCII, and otherwise two bytes that
-/// both aren't. A comparison with 0x80 is one instruction, since it is the sign of a byte.
+/// Each character has one byte if it is ASCII, and otherwise two bytes that both aren't. A comparison with
+/// 0x80 is one instruction, since it is the sign of a byte.
 #[tactic(auto, using(crate::proofs::LengthLemmas::chars_total))]
 pub fn latin1_length_of_utf8(text: &[u8]) -> usize
     requires { IsUtf8Latin1 text.now }

@@ -1,7 +1,8 @@
-//! The UTF-8 of Latin1 by strides of sixteen bytes: both bytes of each are computed, and the kept ones are looked up by a
-//! mask.
+//! The UTF-8 of Latin1 by strides of sixteen bytes: both bytes of each are computed, and the kept ones are looked up
+//! by a mask.
 
-ghost use Rattle.std.specs.Prelude.{◌≡◌, ℕ, ◌+◌, ◌*◌, ◌<◌, ◌≤◌, ◌++◌, nat_le, length, map, take, drop, slice_index, encode_utf8_all};
+ghost use Rattle.std.specs.Prelude.{◌≡◌, ℕ, ◌+◌, ◌*◌, ◌<◌, ◌≤◌, ◌++◌, nat_le, length};
+ghost use Rattle.std.specs.Prelude.{map, take, drop, slice_index, encode_utf8_all};
 ghost use Rattle.std.specs.Simd.Lanes.{mask_l};
 ghost use Rattle.encoding_definitions.specs.Prefixes.{WritesPrefix};
 ghost use Rattle.encoding_kernels.specs.KeptBytes.{EncodesTo};
@@ -13,8 +14,7 @@ use crate::simd::width::{HALF_STRIDE, STRIDE};
 use crate::utf8::validate::first_and_last_eight;
 use std::simd::prelude::*;
 
-/// Returns two bytes for each of sixteen bytes of Latin1, by eight: its UTF-8. A byte that is ASCII has an arbitrary
-/// second one.
+/// The UTF-8 of each byte. A byte that is ASCII has an arbitrary second one.
 #[inline(always)]
 fn both_bytes(block: u8x16) -> (u8x16, u8x16)
     ensures lane_count { (length result.0 ≡ 16) × (length result.1 ≡ 16) }
@@ -32,7 +32,6 @@ fn both_bytes(block: u8x16) -> (u8x16, u8x16)
     (low.to_le_bytes(), high.to_le_bytes())
 }
 
-/// Returns the mask of the bytes that aren't ASCII.
 #[inline(always)]
 fn mask_of_others(block: u8x16) -> usize
     ensures { result ≡ mask_l (map (nat_le 0x80) block) }
@@ -40,8 +39,7 @@ fn mask_of_others(block: u8x16) -> usize
     block.simd_ge(u8x16::splat(0x80)).to_bitmask() as usize
 }
 
-/// Returns the UTF-8 of sixteen bytes of Latin1: that of the first eight at the start of a vector, with its length, and
-/// that of the others in the same way.
+/// The first eight are encoded at the start of one vector, and the others at the start of another.
 #[inline(always)]
 fn encode_latin1(block: u8x16) -> (u8x16, usize, u8x16, usize)
     ensures lane_count { (length result.0 ≡ 16) × (length result.2 ≡ 16) }
@@ -57,7 +55,6 @@ fn encode_latin1(block: u8x16) -> (u8x16, usize, u8x16, usize)
     (first, count, second, more)
 }
 
-/// Writes the UTF-8 of sixteen bytes of Latin1, and returns its length. The rest of `dst` is unchanged.
 #[inline(always)]
 pub fn write_latin1(block: u8x16, dst: &mut [u8], at: usize) -> usize
     requires dst_length { at + 32 ≤ length dst.old }
@@ -71,10 +68,9 @@ pub fn write_latin1(block: u8x16, dst: &mut [u8], at: usize) -> usize
     count + more
 }
 
-/// Writes the UTF-8 of eight to sixteen bytes of Latin1, and returns its length. The rest of `dst` is unchanged.
-///
-/// One vector has the first eight bytes and the last eight, which may overlap. The UTF-8 of the last ones is stored after that
-/// of the bytes before them. Out of line, so that a longer text needs no more registers than it uses.
+/// One vector has the first eight bytes and the last eight, which may overlap. The UTF-8 of the last ones is
+/// stored after that of the bytes before them. Out of line, so that a longer text needs no more registers
+/// than it uses.
 #[inline(never)]
 pub fn write_few_latin1(src: &[u8], dst: &mut [u8]) -> usize
     requires src_length { (8 ≤ length src.now) × (length src.now ≤ 16) }
@@ -89,7 +85,6 @@ pub fn write_few_latin1(src: &[u8], dst: &mut [u8]) -> usize
     before + more
 }
 
-/// Stores the UTF-8 of sixteen bytes of Latin1, and returns its length. Up to sixteen bytes after it may change.
 #[inline(always)]
 fn store_latin1(block: u8x16, dst: &mut [u8], at: usize) -> usize
     requires dst_length { at + 32 ≤ length dst.old }
@@ -101,10 +96,8 @@ fn store_latin1(block: u8x16, dst: &mut [u8], at: usize) -> usize
     count + more
 }
 
-/// Writes the UTF-8 of the 64 bytes of Latin1 from `from` on, and returns its length. The rest of `dst` is unchanged.
-///
-/// Each stride overwrites what the one before it changed after its own bytes, and only the last one restores what follows:
-/// to restore it each time would wait for the store before.
+/// Each stride overwrites what the one before it changed after its own bytes, and only the last one restores
+/// what follows: to restore it each time would wait for the store before.
 #[inline(always)]
 pub fn write_latin1_block(src: &[u8], from: usize, dst: &mut [u8], at: usize) -> usize
     requires within { from + 64 ≤ length src.now }
@@ -127,7 +120,6 @@ pub fn write_latin1_block(src: &[u8], from: usize, dst: &mut [u8], at: usize) ->
     three + fourth
 }
 
-/// Returns the length of the UTF-8 of the first `count` of sixteen bytes of Latin1.
 #[inline(always)]
 pub fn utf8_length_of_first(block: u8x16, count: usize) -> usize
     requires { count ≤ 16 }

@@ -1,11 +1,11 @@
-//! Latin1 in UTF-8, by vectors. Each byte is judged by itself and the one before it, which is loaded separately, so that a
-//! block carries no state and the last one may overlap.
+//! Latin1 in UTF-8, by vectors. Each byte is judged by itself and the one before it, which is loaded separately, so
+//! that a block carries no state and the last one may overlap.
 
 ghost use Rattle.std.specs.Prelude.{◌≡◌, false, ◌+◌, ◌-◌, ◌<◌, ◌≤◌, length, take, slice_index};
 ghost use Rattle.encoding_definitions.specs.Latin1.{IsUtf8Latin1};
 ghost use Rattle.encoding_kernels.specs.Neighbors.{FitLatin1, latin1_fault};
 
-use crate::simd::scan::{AllPass, Test, reach, skip};
+use crate::simd::scan::{AllPass, Test, skip, skip_to_end};
 use crate::simd::width::{BLOCK, STRIDE};
 use std::simd::Simd;
 use std::simd::prelude::*;
@@ -43,7 +43,6 @@ impl<'a, const N: usize> AllPass<N, N> for BytePairs<'a> {
     }
 }
 
-/// Returns `at`, or the start of the character that is cut there.
 #[tactic(auto, using(crate::proofs::PairsLemmas::latin1_whole, crate::proofs::PairsLemmas::latin1_cut))]
 #[inline(always)]
 fn before_cut_character(bytes: &[u8], at: usize) -> usize
@@ -57,8 +56,7 @@ fn before_cut_character(bytes: &[u8], at: usize) -> usize
     }
 }
 
-/// Returns the length of a prefix that is Latin1 in UTF-8, by whole blocks after `from`. Out of line, since most other
-/// text ends before it.
+/// Out of line, since most other text ends before it.
 #[inline(never)]
 pub fn latin1_blocks(bytes: &[u8], from: usize) -> usize
     requires { (0 < from) × (from ≤ length bytes.now) × FitLatin1 bytes.now 0 from }
@@ -66,6 +64,6 @@ pub fn latin1_blocks(bytes: &[u8], from: usize) -> usize
 {
     let test = BytePairs { bytes };
     let by_blocks = skip::<BLOCK, BLOCK, _>(&test, from - 1, bytes.len() - 1);
-    let last = reach::<STRIDE, STRIDE, _>(&test, by_blocks, bytes.len() - 1);
+    let last = skip_to_end::<STRIDE, STRIDE, _>(&test, by_blocks, bytes.len() - 1);
     before_cut_character(bytes, last + 1)
 }

@@ -1,38 +1,20 @@
-//! Looks up by a mask which bytes are kept of eight pairs, or of four lanes of four bytes and in which order, and selects
-//! them.
+//! Looks up by a mask which bytes are kept of eight pairs, or of four lanes of four bytes and in which order, and
+//! selects them.
 
 ghost use Rattle.std.specs.Prelude.{◌≡◌, ℕ, ◌+◌, ◌*◌, ◌<◌, ◌≤◌, ◌++◌, Bool, List, length, map, take, drop, slice_index};
 ghost use Rattle.std.specs.Simd.Lanes.{mask_l};
 ghost use Rattle.encoding_kernels.specs.KeptBytes.{kept_places, unit_places};
 ghost use Rattle.encoding_kernels.specs.Utf8Output.{Spills};
 
-use crate::simd::width::LANES;
+use crate::simd::lookup::table;
+use crate::simd::width::LANE_INDICES;
 use std::simd::prelude::*;
-
-/// Builds the table pair by pair, last pair first. Each row lists the index of the pair's first byte, or those of both
-/// bytes, by its bit, followed by those of later pairs. A row has four words.
-macro_rules! pair_rows {
-    ([] $($row:expr),*) => {
-        [$(
-            ($row & 0xFFFF_FFFF) as u32,
-            ($row >> 32 & 0xFFFF_FFFF) as u32,
-            ($row >> 64 & 0xFFFF_FFFF) as u32,
-            ($row >> 96) as u32
-        ),*]
-    };
-    ([$first:literal $($before:literal)*] $($row:expr),*) => {
-        pair_rows!([$($before)*] $(
-            $row << 8 | $first,
-            $row << 16 | $first + 1 << 8 | $first
-        ),*)
-    };
-}
 
 /// For each mask of eight pairs of bytes, the indices of the bytes that are kept: the first of each pair, and the
 /// second if its bit is set. Zeros follow.
-const PLACES: [u32; 1024] = pair_rows!([14u128 12u128 10u128 8u128 6u128 4u128 2u128 0u128] 0u128);
+const PLACES: [u32; 1024] =
+    table!(pairs [14u128 12u128 10u128 8u128 6u128 4u128 2u128 0u128] 0u128);
 
-/// Returns a word of the table.
 #[inline(always)]
 fn places_word(at: usize) -> u32
     requires { at < 1024 }
@@ -41,7 +23,7 @@ fn places_word(at: usize) -> u32
     PLACES[at]
 }
 
-/// Returns the indices that a mask keeps, followed by zeros.
+/// The indices that a mask keeps, followed by zeros.
 #[inline(always)]
 pub(crate) fn places_by(mask: usize) -> u8x16
     requires { mask < 256 }
@@ -59,7 +41,6 @@ pub(crate) fn places_by(mask: usize) -> u8x16
     .to_le_bytes()
 }
 
-/// Returns the bytes of eight pairs that a mask keeps, at the start of the vector, and their number.
 #[inline(always)]
 pub(crate) fn keep_pairs(pairs: u8x16, mask: usize) -> (u8x16, usize)
     requires { mask < 256 }
@@ -74,8 +55,7 @@ pub(crate) fn keep_pairs(pairs: u8x16, mask: usize) -> (u8x16, usize)
     )
 }
 
-/// Writes the first `count` bytes of `first`, followed by the first `more` of `second`. Stores sixteen bytes at
-/// `at` and then sixteen after the first ones, the others as `dst` has them.
+/// Stores sixteen bytes at `at` and then sixteen after the first ones.
 #[inline(always)]
 pub(crate) fn write_both(
     dst: &mut [u8],
@@ -94,14 +74,12 @@ pub(crate) fn write_both(
     let next = at + count;
     let following = u8x16::from_slice(&dst[next..]);
     first.copy_to_slice(&mut dst[at..]);
-    let is_kept = u8x16::from_array(LANES).simd_lt(u8x16::splat(more as u8));
+    let is_kept = u8x16::from_array(LANE_INDICES).simd_lt(u8x16::splat(more as u8));
     is_kept
         .select(second, following)
         .copy_to_slice(&mut dst[next..]);
 }
 
-/// Stores the first `count` bytes of `first`, followed by the first `more` of `second`. Up to sixteen bytes after these may
-/// change.
 #[inline(always)]
 pub(crate) fn store_two(
     dst: &mut [u8],
@@ -120,34 +98,11 @@ pub(crate) fn store_two(
     second.copy_to_slice(&mut dst[at + count..]);
 }
 
-/// Builds the table lane by lane, last lane first. Each row lists the indices of the lane's UTF-8 by its two bits. If neither
-/// is set, these are the third, last and second byte, and if only the second is, the last and the second. Otherwise it is the
-/// first one. Those of later lanes follow. A row has three words of indices and one with their number.
-macro_rules! unit_rows {
-    ([] $($row:expr, $length:expr);*) => {
-        [$(
-            ($row & 0xFFFF_FFFF) as u32,
-            ($row >> 32 & 0xFFFF_FFFF) as u32,
-            ($row >> 64) as u32,
-            $length
-        ),*]
-    };
-    ([$first:literal $($before:literal)*] $($row:expr, $length:expr);*) => {
-        unit_rows!([$($before)*] $(
-            $row << 24 | $first + 1 << 16 | $first + 3 << 8 | $first + 2, $length + 3;
-            $row << 8 | $first, $length + 1;
-            $row << 16 | $first + 1 << 8 | $first + 3, $length + 2;
-            $row << 8 | $first, $length + 1
-        );*)
-    };
-}
+/// For each mask of four lanes, the indices of the bytes that are kept: of a lane the first one if the first of its
+/// bits is set, else the last and the second if the second is, else the third, the last and the second. Zeros follow,
+/// and in the fourth word the number of the indices.
+const UNIT_PLACES: [u32; 1024] = table!(units [12u128 8u128 4u128 0u128] 0u128, 0u32);
 
-/// For each mask of four lanes, the indices of the bytes that are kept: of a lane the first one if the first of its bits is
-/// set, else the last and the second if the second is, else the third, the last and the second. Zeros follow, and in the
-/// fourth word the number of the indices.
-const UNIT_PLACES: [u32; 1024] = unit_rows!([12u128 8u128 4u128 0u128] 0u128, 0u32);
-
-/// Returns a word of the table.
 #[inline(always)]
 fn unit_places_word(at: usize) -> u32
     requires { at < 1024 }
@@ -156,7 +111,6 @@ fn unit_places_word(at: usize) -> u32
     UNIT_PLACES[at]
 }
 
-/// Returns the indices that a mask keeps, at the start of the vector, and their number.
 #[inline(always)]
 pub(crate) fn unit_places_by(mask: usize) -> (u8x16, usize)
     requires { mask < 256 }
@@ -176,8 +130,6 @@ pub(crate) fn unit_places_by(mask: usize) -> (u8x16, usize)
     (words.to_le_bytes(), count as usize)
 }
 
-/// Returns the bytes of the first half of a vector at the indices in `first`, and those of the second half at the
-/// indices in `second`.
 #[inline(always)]
 pub(crate) fn select_in_halves(bytes: u8x32, first: u8x16, second: u8x16) -> (u8x16, u8x16)
     requires lane_count { (length first ≡ 16) × (length second ≡ 16) }

@@ -1,14 +1,15 @@
 //! Copies by vectors: bytes as bytes or as UTF-16 code units, and ASCII code units as bytes. The rest of `dst` is
-//! unchanged. A text of at most 128 bytes, or 64 UTF-16 code units, is tested as a whole and then copied, some units twice to the
-//! same index.
+//! unchanged. A text of at most 128 bytes, or 64 UTF-16 code units, is tested as a whole and then copied, some units
+//! twice to the same index.
 
-ghost use Rattle.std.specs.Prelude.{◌≡◌, ◌+◌, ◌*◌, ◌%◌, ◌<◌, ◌≤◌, ◌++◌, length, map, take, drop, slice_index, ℕ, List, ◌-◌, ◌↔◌, IsTrue, IsFalse, replicate, refl};
+ghost use Rattle.std.specs.Prelude.{◌≡◌, ◌+◌, ◌*◌, ◌%◌, ◌<◌, ◌≤◌, ◌++◌, length, map, take, drop};
+ghost use Rattle.std.specs.Prelude.{slice_index, ℕ, List, ◌-◌, ◌↔◌, IsTrue, IsFalse, replicate, refl};
 ghost use Rattle.encoding_definitions.specs.Prefixes.{WritesPrefix};
 ghost use Rattle.encoding_kernels.specs.Scans.{AllBelow, HasLanes, PassBetween};
 
 use crate::simd::scan::{AllPass, BytesBelow, Test, pass_by_two, pass_few};
 use crate::simd::units::UnitsBelow;
-use crate::simd::width::{BLOCK, HALF_BLOCK, HALF_STRIDE, LANES, QUARTER_STRIDE, STRIDE};
+use crate::simd::width::{BLOCK, HALF_BLOCK, HALF_STRIDE, LANE_INDICES, QUARTER_STRIDE, STRIDE};
 use crate::tuning::LONGEST_VECTOR_COPY;
 use std::simd::Simd;
 use std::simd::prelude::*;
@@ -20,7 +21,6 @@ const LANES_OF_BLOCK: [u8; BLOCK] = [
     50, 51, 52, 53, 54, 55, 56, 57, 58, 59, 60, 61, 62, 63,
 ];
 
-/// Copies the N bytes from `from` on to index `at`.
 #[tactic(auto, using(std::proofs::lemmas::Grind::common_steps, crate::proofs::VectorLemmas::stored))]
 #[inline(always)]
 pub fn copy<const N: usize>(src: &[u8], from: usize, dst: &mut [u8], at: usize)
@@ -30,7 +30,7 @@ pub fn copy<const N: usize>(src: &[u8], from: usize, dst: &mut [u8], at: usize)
     Simd::<u8, N>::from_slice(&src[from..]).copy_to_slice(&mut dst[at..]);
 }
 
-/// Copies `src` to the start of `dst`, N bytes at a time. The last stride may overlap the one before it.
+/// The last stride may overlap the one before it.
 #[inline(always)]
 fn copy_by_strides<const N: usize>(src: &[u8], dst: &mut [u8])
     requires { (0 < N) × (N ≤ 64) × (N ≤ length src.now) × (length src.now ≤ length dst.old) }
@@ -45,8 +45,8 @@ fn copy_by_strides<const N: usize>(src: &[u8], dst: &mut [u8])
     copy::<N>(src, last, dst, last);
 }
 
-/// Copies `src` to the start of `dst`. A few bytes are not worth a PLT call of the C library. One, two or three may be copied
-/// twice: a branch for each length costs more. Two vectors that may overlap are enough from four to 64 bytes.
+/// A few bytes are not worth a PLT call of the C library. One, two or three may be copied twice: a branch for
+/// each length costs more. Two vectors that may overlap are enough from four to 64 bytes.
 #[inline(always)]
 pub fn copy_prefix(src: &[u8], dst: &mut [u8])
     requires { length src.now ≤ length dst.old }
@@ -73,7 +73,6 @@ pub fn copy_prefix(src: &[u8], dst: &mut [u8])
     }
 }
 
-/// Copies the N bytes from `from` on to index `at`, each as a UTF-16 code unit.
 #[inline(always)]
 pub fn unpack<const N: usize>(src: &[u8], from: usize, dst: &mut [u16], at: usize)
     requires { (from + N ≤ length src.now) × (at + N ≤ length dst.old) }
@@ -83,7 +82,6 @@ pub fn unpack<const N: usize>(src: &[u8], from: usize, dst: &mut [u16], at: usiz
     units.copy_to_slice(&mut dst[at..]);
 }
 
-/// Copies the N ASCII code units from `from` on to index `at`, each as a byte.
 #[inline(always)]
 pub fn pack<const N: usize>(src: &[u16], from: usize, dst: &mut [u8], at: usize)
     requires within { (from + N ≤ length src.now) × (at + N ≤ length dst.old) }
@@ -94,8 +92,7 @@ pub fn pack<const N: usize>(src: &[u16], from: usize, dst: &mut [u8], at: usize)
     bytes.copy_to_slice(&mut dst[at..]);
 }
 
-/// Copies the 64 bytes from `at` on to the same index, each as a UTF-16 code unit. Strides are stored in order, as one
-/// vector of 64 lanes would not be.
+/// Strides are stored in order, as one vector of 64 lanes would not be.
 #[inline(always)]
 pub fn unpack_block(src: &[u8], dst: &mut [u16], at: usize)
     requires { (at + 64 ≤ length src.now) × (at + 64 ≤ length dst.old) }
@@ -107,7 +104,6 @@ pub fn unpack_block(src: &[u8], dst: &mut [u16], at: usize)
     unpack::<STRIDE>(src, at + 3 * STRIDE, dst, at + 3 * STRIDE);
 }
 
-/// Writes the lower byte of each of N UTF-16 code units from `at` on.
 #[inline(always)]
 pub fn pack_lower<const N: usize>(stride: &[u16; N], dst: &mut [u8], at: usize)
     requires { at + N ≤ length dst.old }
@@ -118,7 +114,7 @@ pub fn pack_lower<const N: usize>(stride: &[u16; N], dst: &mut [u8], at: usize)
     lower.cast::<u8>().copy_to_slice(&mut dst[at..]);
 }
 
-/// Writes the first `count` bytes of a vector from `at` on. Stores sixteen bytes, the others as `dst` has them.
+/// Stores sixteen bytes.
 #[inline(always)]
 pub fn write_first(dst: &mut [u8], at: usize, bytes: u8x16, count: usize)
     requires dst_length { at + 16 ≤ length dst.old }
@@ -126,13 +122,13 @@ pub fn write_first(dst: &mut [u8], at: usize, bytes: u8x16, count: usize)
     ensures { dst.new ≡ take at dst.old ++ (take count bytes ++ drop (at + count) dst.old) }
 {
     let following = u8x16::from_slice(&dst[at..]);
-    let is_kept = u8x16::from_array(LANES).simd_lt(u8x16::splat(count as u8));
+    let is_kept = u8x16::from_array(LANE_INDICES).simd_lt(u8x16::splat(count as u8));
     is_kept
         .select(bytes, following)
         .copy_to_slice(&mut dst[at..]);
 }
 
-/// Copies the first `count` of the 64 bytes from `at` on to the same index. Stores 64, the others as `dst` has them.
+/// Stores 64 bytes.
 #[inline(always)]
 pub fn copy_run_of_block(src: &[u8], dst: &mut [u8], at: usize, count: usize)
     requires within { (at + 64 ≤ length src.now) × (at + 64 ≤ length dst.old) }
@@ -148,7 +144,7 @@ pub fn copy_run_of_block(src: &[u8], dst: &mut [u8], at: usize, count: usize)
         .copy_to_slice(&mut dst[at..]);
 }
 
-/// Writes the first `count` bytes from `at` on. Stores sixteen, the others as `dst` has them.
+/// Stores sixteen bytes.
 #[inline(always)]
 pub fn copy_first(src: &[u8], dst: &mut [u8], at: usize, count: usize)
     requires within { (16 ≤ length src.now) × (at + 16 ≤ length dst.old) }
@@ -163,7 +159,7 @@ pub fn copy_first(src: &[u8], dst: &mut [u8], at: usize, count: usize)
     }
 }
 
-/// Writes the first `count` bytes from `at` on, each as a UTF-16 code unit. Stores sixteen, the others as `dst` has them.
+/// Stores sixteen units.
 #[inline(always)]
 pub fn unpack_first(src: &[u8], dst: &mut [u16], at: usize, count: usize)
     requires within { (16 ≤ length src.now) × (at + 16 ≤ length dst.old) }
@@ -175,7 +171,7 @@ pub fn unpack_first(src: &[u8], dst: &mut [u16], at: usize, count: usize)
     }
     let units = u8x16::from_slice(src).cast::<u16>();
     let following = u16x16::from_slice(&dst[at..]);
-    let is_kept = u8x16::from_array(LANES)
+    let is_kept = u8x16::from_array(LANE_INDICES)
         .cast::<u16>()
         .simd_lt(u16x16::splat(count as u16));
     is_kept
@@ -183,8 +179,7 @@ pub fn unpack_first(src: &[u8], dst: &mut [u16], at: usize, count: usize)
         .copy_to_slice(&mut dst[at..]);
 }
 
-/// Writes the first `count` code units of a stride, which are ASCII, from `at` on, each as a byte. Stores sixteen, the
-/// others as `dst` has them.
+/// Stores sixteen bytes.
 #[inline(always)]
 pub fn pack_first(stride: &[u16; STRIDE], dst: &mut [u8], at: usize, count: usize)
     requires within { (at + 16 ≤ length dst.old) × (count ≤ 16) }
@@ -195,7 +190,7 @@ pub fn pack_first(stride: &[u16; STRIDE], dst: &mut [u8], at: usize, count: usiz
     write_first(dst, at, lower.cast::<u8>(), count);
 }
 
-/// Joins a lower and an upper byte for each lane, and returns the first eight and the last eight.
+/// Joins a lower and an upper byte for each lane.
 #[inline(always)]
 pub(crate) fn join_bytes(lower: u8x16, upper: u8x16) -> (u16x8, u16x8)
     ensures lanes { HasLanes 8 result.0 (λ k. slice_index lower k + 0x100 * slice_index upper k) }
@@ -225,7 +220,6 @@ pub trait ShortCopy<D>: Test {
 
 /// N units that are copied at a time.
 pub trait CopyLanes<const N: usize, D>: ShortCopy<D> {
-    /// Copies the N units from `at` on, which pass, to the same index.
     fn write(&self, at: usize, dst: &mut [D])
         requires within { (at + N ≤ Self.count self.now) × (at + N ≤ length dst.old) }
         requires pass { PassBetween (Self.passes self.now) at (at + N) }
@@ -234,7 +228,7 @@ pub trait CopyLanes<const N: usize, D>: ShortCopy<D> {
             ++ (take N (drop at (Self.units self.now)) ++ drop (at + N) dst.old) };
 }
 
-/// Copies N to 2 * N units if they pass. Returns whether they do.
+/// Two vectors may overlap.
 #[inline(always)]
 fn write_by_two<const N: usize, D, T: AllPass<N, N> + CopyLanes<N, D>>(
     test: &T,
@@ -257,7 +251,7 @@ fn write_by_two<const N: usize, D, T: AllPass<N, N> + CopyLanes<N, D>>(
     true
 }
 
-/// Copies one, two or three units if they pass. Returns whether they do. May copy a unit twice.
+/// May copy a unit twice.
 #[inline(always)]
 fn write_few<D, T: AllPass<1, 1> + CopyLanes<1, D>>(test: &T, count: usize, dst: &mut [D]) -> bool
     requires few { (count ≡ T.count test.now) × (0 < count) × (count ≤ 3) }
@@ -276,7 +270,6 @@ fn write_few<D, T: AllPass<1, 1> + CopyLanes<1, D>>(test: &T, count: usize, dst:
     true
 }
 
-/// Copies a short text, of `count` units, if all of them pass. Returns whether they do. The rest of `dst` is unchanged.
 #[inline(always)]
 pub fn write_short<const LONGEST: usize, D, T>(test: &T, count: usize, dst: &mut [D]) -> bool
 where

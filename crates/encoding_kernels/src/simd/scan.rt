@@ -1,10 +1,11 @@
-//! Scans for indices that pass a test, many at a time by vectors, and the longest prefix of bytes below a bound, such as
-//! the ASCII prefix. Two vectors that may overlap cover a text of 4 to 128 units, so none is left to a loop.
+//! Scans for indices that pass a test, many at a time by vectors, and the longest prefix of bytes below a bound, such
+//! as the ASCII prefix. Two vectors that may overlap cover a text of 4 to 128 units, so none is left to a loop.
 
 ghost use Rattle.std.specs.Prelude.{◌≡◌, ℕ, ◌+◌, ◌*◌, ◌<◌, ◌≤◌, ◌↔◌, IsTrue, length, slice_index};
 ghost use lib.Count.{count_trailing_zeros};
 ghost use Rattle.encoding_kernels.specs.Following.{IsZeroTo};
-ghost use Rattle.encoding_kernels.specs.Scans.{PassBetween, IsPassRun, IsWidth, Marks, JoinsOthers, AllBelow, IsRunBelow, BelowUpTo};
+ghost use Rattle.encoding_kernels.specs.Scans.{PassBetween, IsPassRun, IsWidth, Marks};
+ghost use Rattle.encoding_kernels.specs.Scans.{JoinsOthers, AllBelow, IsRunBelow, BelowUpTo};
 
 use crate::simd::width::{
     BLOCK, FOUR_BLOCKS, HALF_BLOCK, HALF_STRIDE, QUARTER_STRIDE, STRIDE, TWO_BLOCKS,
@@ -21,7 +22,6 @@ pub trait Test {
 
 /// A test that finds the first of N indices that fails.
 pub trait LanePredicate<const N: usize>: Test {
-    /// Returns the mask of those of the N indices from `at` on that fail.
     fn failing(&self, at: usize) -> u64
         requires { (at + N ≤ Self.count self.now) × (0 < N) × (N ≤ 64) }
         ensures { Marks (Self.passes self.now) at N result };
@@ -29,13 +29,11 @@ pub trait LanePredicate<const N: usize>: Test {
 
 /// A test of W indices at once, by one vector of N or by several.
 pub trait AllPass<const N: usize, const W: usize>: Test {
-    /// Returns whether each of the W indices from `at` on passes.
     fn pass(&self, at: usize) -> bool
         requires { (at + W ≤ Self.count self.now) × IsWidth N W }
         ensures { IsTrue result ↔ PassBetween (Self.passes self.now) at (at + W) };
 }
 
-/// Returns how many of N indices precede the first that fails, by the mask of those that do.
 #[inline(always)]
 pub(crate) fn run_before<const N: usize>(failing: u64) -> usize
     ensures none_failing { failing ≡ 0 → result ≡ N }
@@ -48,17 +46,14 @@ pub(crate) fn run_before<const N: usize>(failing: u64) -> usize
     }
 }
 
-/// Returns how many of the N indices from `at` on precede the first that fails.
 #[inline(always)]
-pub(crate) fn run<const N: usize, T: LanePredicate<N>>(test: &T, at: usize) -> usize
+pub(crate) fn run_length<const N: usize, T: LanePredicate<N>>(test: &T, at: usize) -> usize
     requires { (at + N ≤ T.count test.now) × (0 < N) × (N ≤ 64) }
     ensures { IsPassRun (T.passes test.now) at N result }
 {
     run_before::<N>(test.failing(at))
 }
 
-/// Skips W indices at a time from `from` on, no farther than `end`, while they pass, and returns the index that it
-/// reaches.
 #[inline(always)]
 pub(crate) fn skip<const N: usize, const W: usize, T: AllPass<N, W>>(
     test: &T,
@@ -81,9 +76,9 @@ pub(crate) fn skip<const N: usize, const W: usize, T: AllPass<N, W>>(
     at
 }
 
-/// Skips as far as `skip`, or to `end` if the last W indices before it pass too. These may overlap the ones before.
+/// The last W indices may overlap the ones before.
 #[inline(always)]
-pub(crate) fn reach<const N: usize, const W: usize, T: AllPass<N, W>>(
+pub(crate) fn skip_to_end<const N: usize, const W: usize, T: AllPass<N, W>>(
     test: &T,
     from: usize,
     end: usize,
@@ -103,10 +98,9 @@ pub(crate) fn reach<const N: usize, const W: usize, T: AllPass<N, W>>(
     at
 }
 
-/// Returns the first index before `end` that fails, or `end`, given that all before `from` pass. Scans N indices at a
-/// time, and the last N may overlap the ones before.
+/// The last N indices may overlap the ones before.
 #[inline(always)]
-pub(crate) fn find<const N: usize, T: LanePredicate<N> + AllPass<N, N>>(
+pub(crate) fn first_failing<const N: usize, T: LanePredicate<N> + AllPass<N, N>>(
     test: &T,
     from: usize,
     end: usize,
@@ -123,10 +117,9 @@ pub(crate) fn find<const N: usize, T: LanePredicate<N> + AllPass<N, N>>(
         return at;
     }
     let place = at.min(end - N);
-    place + run::<N, T>(test, place)
+    place + run_length::<N, T>(test, place)
 }
 
-/// Returns whether each of N to 2 * N indices passes.
 #[inline(always)]
 pub(super) fn pass_by_two<const N: usize, T: AllPass<N, N>>(test: &T, count: usize) -> bool
     requires count { (count ≤ T.count test.now) × (N ≤ count) × (count ≤ 2 * N) }
@@ -136,7 +129,7 @@ pub(super) fn pass_by_two<const N: usize, T: AllPass<N, N>>(test: &T, count: usi
     test.pass(0) & test.pass(count - N)
 }
 
-/// Returns whether each of one, two or three indices passes. May test one twice: a branch for each count costs more.
+/// May test an index twice: a branch for each count costs more.
 #[inline(always)]
 pub(super) fn pass_few<T: AllPass<1, 1>>(test: &T, count: usize) -> bool
     requires { (count ≤ T.count test.now) × (0 < count) × (count ≤ 3) }
@@ -145,8 +138,7 @@ pub(super) fn pass_few<T: AllPass<1, 1>>(test: &T, count: usize) -> bool
     test.pass(0) & test.pass(count / 2) & test.pass(count - 1)
 }
 
-/// Returns whether each of the first `count` indices passes. Tests of the length begin with the longest texts, since a test that
-/// fails is a jump.
+/// Tests of the length begin with the longest texts, since a test that fails is a jump.
 #[inline(always)]
 pub fn pass_short<const LONGEST: usize, T>(test: &T, count: usize) -> bool
 where
@@ -239,7 +231,6 @@ impl<'a> AllPass<HALF_BLOCK, FOUR_BLOCKS> for BytesBelow<'a> {
     }
 }
 
-/// Returns zero in the lanes of those of the 32 bytes from `at` on that are below the bound.
 #[inline(always)]
 fn others_of_32(bytes: &[u8], at: usize, bound: u8) -> u8x32
     requires { at + 32 ≤ length bytes.now }
@@ -249,7 +240,6 @@ fn others_of_32(bytes: &[u8], at: usize, bound: u8) -> u8x32
     others.select(u8x32::splat(0xFF), u8x32::splat(0))
 }
 
-/// Returns whether each of the N bytes from `at` on is below the bound.
 #[inline(always)]
 pub fn are_bytes_below<const N: usize>(bytes: &[u8], at: usize, bound: u8) -> bool
     requires { (at + N ≤ length bytes.now) × (0 < N) × (N ≤ 64) }
@@ -258,7 +248,6 @@ pub fn are_bytes_below<const N: usize>(bytes: &[u8], at: usize, bound: u8) -> bo
     AllPass::<N, N>::pass(&BytesBelow { bytes, bound }, at)
 }
 
-/// Returns whether each of the 256 bytes from `at` on is below the bound.
 #[inline(always)]
 pub fn are_256_below(bytes: &[u8], at: usize, bound: u8) -> bool
     requires { at + 256 ≤ length bytes.now }
@@ -267,17 +256,15 @@ pub fn are_256_below(bytes: &[u8], at: usize, bound: u8) -> bool
     AllPass::<HALF_BLOCK, FOUR_BLOCKS>::pass(&BytesBelow { bytes, bound }, at)
 }
 
-/// Returns how many of the N bytes from `at` on precede the first that isn't below the bound.
 #[inline(always)]
 pub fn run_len_below<const N: usize>(bytes: &[u8], at: usize, bound: u8) -> usize
     requires { (at + N ≤ length bytes.now) × (0 < N) × (N ≤ 64) }
     ensures { IsRunBelow bound bytes.now at N result }
 {
-    run::<N, _>(&BytesBelow { bytes, bound }, at)
+    run_length::<N, _>(&BytesBelow { bytes, bound }, at)
 }
 
-/// Returns how many bytes precede the first that isn't below the bound, of at least N and at most 2 * N. Both of two vectors, which may
-/// overlap, are tested, so that no branch depends on the bytes.
+/// Both of two vectors, which may overlap, are tested, so that no branch depends on the bytes.
 #[inline(always)]
 pub fn run_len_by_two<const N: usize>(bytes: &[u8], bound: u8) -> usize
     requires { (0 < N) × (N ≤ 64) × (N ≤ length bytes.now) × (length bytes.now ≤ 2 * N) }
@@ -289,8 +276,7 @@ pub fn run_len_by_two<const N: usize>(bytes: &[u8], bound: u8) -> usize
     if first < N { first } else { last + second }
 }
 
-/// Returns the length of the longest prefix of bytes below `bound`. Checks the first vector separately, since most
-/// prefixes end there.
+/// Checks the first vector separately, since most prefixes end there.
 #[inline(always)]
 pub fn prefix_len_below(bytes: &[u8], bound: u8) -> usize
     ensures within { result ≤ length bytes.now }
@@ -305,7 +291,7 @@ pub fn prefix_len_below(bytes: &[u8], bound: u8) -> usize
         return prefix_after_stride(bytes, bound);
     }
     if bytes.len() >= HALF_STRIDE {
-        return find::<HALF_STRIDE, _>(&BytesBelow { bytes, bound }, 0, bytes.len());
+        return first_failing::<HALF_STRIDE, _>(&BytesBelow { bytes, bound }, 0, bytes.len());
     }
     let mut at = 0;
     while at < bytes.len() && bytes[at] < bound {
@@ -314,7 +300,6 @@ pub fn prefix_len_below(bytes: &[u8], bound: u8) -> usize
     at
 }
 
-/// Returns the length of the longest prefix of bytes below the bound, given that those of the first stride are.
 #[inline(always)]
 pub fn prefix_after_stride(bytes: &[u8], bound: u8) -> usize
     requires { (16 ≤ length bytes.now) × BelowUpTo bound bytes.now 16 }
@@ -324,13 +309,13 @@ pub fn prefix_after_stride(bytes: &[u8], bound: u8) -> usize
 {
     let test = BytesBelow { bytes, bound };
     if bytes.len() < BLOCK {
-        return find::<STRIDE, _>(&test, STRIDE, bytes.len());
+        return first_failing::<STRIDE, _>(&test, STRIDE, bytes.len());
     }
     let by_blocks = skip::<HALF_BLOCK, FOUR_BLOCKS, _>(&test, 0, bytes.len());
-    find::<BLOCK, _>(&test, by_blocks, bytes.len())
+    first_failing::<BLOCK, _>(&test, by_blocks, bytes.len())
 }
 
-/// Returns whether each lane is zero, by words of 64 bits: ARM has no instruction for the mask of a vector.
+/// By words of 64 bits: ARM has no instruction for the mask of a vector.
 #[inline(always)]
 pub(crate) fn is_zero(lanes: u8x32) -> bool
     ensures { IsTrue result ↔ IsZeroTo lanes 32 }
@@ -338,7 +323,6 @@ pub(crate) fn is_zero(lanes: u8x32) -> bool
     u64x4::from_le_bytes(lanes).reduce_or() == 0
 }
 
-/// Returns how many lanes precede the first that isn't zero.
 #[inline(always)]
 pub(crate) fn zeros<const N: usize>(lanes: Simd<u8, N>) -> usize
     requires { N ≤ 64 }

@@ -1,12 +1,16 @@
 //! Sums over the indices of a text: the term of each is decided by the unit there and those after it, and vectors
 //! compute the terms of many indices at a time.
-ghost use Rattle.std.specs.Prelude.{◌≡◌, ℕ, ◌+◌, ◌*◌, ◌^◌, ◌<◌, ◌≤◌, List, length, drop, slice_index, nat_lt, if◌then◌else◌};
+ghost use Rattle.std.specs.Prelude.{◌≡◌, ℕ, ◌+◌, ◌*◌, ◌^◌, ◌<◌, ◌≤◌, List, length};
+ghost use Rattle.std.specs.Prelude.{drop, slice_index, nat_lt, if◌then◌else◌};
 ghost use Rattle.std.specs.Simd.Lanes.{sum_l};
 ghost use Rattle.encoding_kernels.specs.Scans.{HasLanes};
 ghost use Rattle.encoding_kernels.specs.Lengths.{sum_over_suffixes};
 
 use std::simd::Simd;
 use std::simd::prelude::*;
+
+/// The number of lanes of a vector of terms, if the text has that many.
+pub(crate) const LANES: usize = 32;
 
 /// Bounds of the lanes of a vector whose last ones count, read from an index on: the greatest term there, else zero.
 const BOUNDS: [u8; 128] = [
@@ -24,25 +28,21 @@ pub(crate) trait Terms<const N: usize> {
 
     ghost whole: { Self → ℕ };
 
-    /// Returns the length of the text.
     fn len(&self) -> usize
         ensures { result ≡ length (text self.now) };
 
-    /// Returns the end of the indices whose terms vectors compute. After it, a term needs units past the last.
+    /// The end of the indices whose terms vectors compute. After it, a term needs units past the last.
     fn end(&self) -> usize
         ensures { (result ≡ whole self.now) × (length (text self.now) < 2 ^ 63) };
 
-    /// Returns the terms of the N indices from `at` on.
     fn terms(&self, at: usize) -> Simd<u8, N>
         requires { (0 < N) × (at + N ≤ whole self.now) }
         ensures { HasLanes N result (λ k. term self.now (drop (at + k) (text self.now))) };
 
-    /// Returns the term of an index.
     fn term_at(&self, at: usize) -> usize
         requires { at < length (text self.now) }
         ensures { result ≡ term self.now (drop at (text self.now)) };
 
-    /// Skips, from `at` on and no farther than `end`, indices whose terms are zero.
     fn skip(&self, at: usize, end: usize) -> usize
         requires { (at ≤ end) × (end ≤ whole self.now) }
         ensures within { (at ≤ result) × (result ≤ end) }
@@ -55,7 +55,6 @@ pub(crate) trait Terms<const N: usize> {
     ghost few: { (s : Self) (xs : List ℕ) → term s xs ≤ 2 };
 }
 
-/// Returns the sum of the lanes of a vector.
 #[inline(always)]
 fn sum_of_lanes<const N: usize>(lanes: Simd<u8, N>) -> usize
     requires { N ≤ 64 }
@@ -64,7 +63,7 @@ fn sum_of_lanes<const N: usize>(lanes: Simd<u8, N>) -> usize
     usize::from(lanes.cast::<u16>().strict_reduce_sum())
 }
 
-/// Returns the sum over the indices from `at` on, as far before `stop` as whole vectors go, and the index after them.
+/// Also returns the index after the whole vectors.
 #[inline(always)]
 fn sum_of_vectors<const N: usize, T: Terms<N>>(terms: &T, at: usize, stop: usize) -> (usize, usize)
     requires lanes { (0 < N) × (N ≤ 64) }
@@ -83,7 +82,6 @@ fn sum_of_vectors<const N: usize, T: Terms<N>>(terms: &T, at: usize, stop: usize
     (sum_of_lanes(sums), place)
 }
 
-/// Returns the vector with zero in its first `skip` lanes.
 #[inline(always)]
 fn clear_first<const N: usize>(lanes: Simd<u8, N>, skip: usize) -> Simd<u8, N>
     requires within { (skip ≤ N) × (N ≤ 64) }
@@ -94,8 +92,7 @@ fn clear_first<const N: usize>(lanes: Simd<u8, N>, skip: usize) -> Simd<u8, N>
     lanes.simd_min(Simd::from_slice(&bounds[64 - skip..]))
 }
 
-/// Returns the sum over the last indices before `end`, from `at` on. They are fewer than N, and the vector that ends
-/// there has lanes before them, which don't count.
+/// The vector that ends at `end` has lanes before `at`, which don't count.
 #[inline(always)]
 fn sum_of_last<const N: usize, T: Terms<N>>(terms: &T, at: usize, end: usize) -> usize
     requires lanes { (0 < N) × (N ≤ 64) }
@@ -108,7 +105,7 @@ fn sum_of_last<const N: usize, T: Terms<N>>(terms: &T, at: usize, end: usize) ->
     sum_of_lanes(clear_first(terms.terms(from), at - from))
 }
 
-/// Returns the sum over the indices from `from` to `end` by vectors of N lanes, which are summed after each SPAN indices.
+/// The lanes are summed after each SPAN indices.
 #[inline(always)]
 fn sum_by<const N: usize, const SPAN: usize, T: Terms<N>>(
     terms: &T,
@@ -136,8 +133,7 @@ fn sum_by<const N: usize, const SPAN: usize, T: Terms<N>>(
     sum + sum_of_last::<N, T>(terms, at, end)
 }
 
-/// Returns the sum over the indices from `from` on, one by one.
-#[tactic(auto, using(std::proofs::lemmas::Grind::common_steps, crate::proofs::SumLemmas::total_end, crate::proofs::SumLemmas::total_next))]
+#[tactic(auto, using(std::proofs::lemmas::Grind::common_steps, crate::proofs::SumLemmas::single_terms))]
 #[inline(always)]
 fn sum_singly<const N: usize, T: Terms<N>>(terms: &T, from: usize) -> usize
     requires within { from ≤ length (T.text terms.now) }
@@ -154,8 +150,7 @@ fn sum_singly<const N: usize, T: Terms<N>>(terms: &T, from: usize) -> usize
     sum
 }
 
-/// Returns the sum over the indices from `from` to `end` by vectors of N lanes, or of M if there are fewer indices.
-/// `short` has the same terms.
+/// `short` has the same terms in M lanes.
 #[inline(always)]
 fn sum_to<const N: usize, const M: usize, const SPAN: usize, T: Terms<N>, S: Terms<M>>(
     terms: &T,
@@ -179,8 +174,7 @@ fn sum_to<const N: usize, const M: usize, const SPAN: usize, T: Terms<N>, S: Ter
     }
 }
 
-/// Returns the sum over the indices from `from` on, by vectors of N lanes, or of M if the text is shorter than that.
-/// `short` has the same terms.
+/// `short` has the same terms in M lanes.
 #[inline(always)]
 pub(crate) fn sum_from<const N: usize, const M: usize, const SPAN: usize, T: Terms<N>, S: Terms<M>>(
     terms: &T,

@@ -1,10 +1,10 @@
-//! Scans for UTF-16 code units below a bound, and the longest prefix of these.
+//! Scans for UTF-16 code units below a bound.
 
 ghost use Rattle.std.specs.Prelude.{◌≡◌, ◌+◌, ◌<◌, ◌≤◌, ◌↔◌, IsTrue, length, slice_index};
 ghost use Rattle.encoding_kernels.specs.Following.{IsZeroTo};
 ghost use Rattle.encoding_kernels.specs.Scans.{AllBelow, IsRunBelow, BelowUpTo};
 
-use crate::simd::scan::{AllPass, LanePredicate, Test, find, pass_short, reach, run, skip};
+use crate::simd::scan::{AllPass, LanePredicate, Test, pass_short, run_length, skip_to_end};
 use crate::simd::width::{HALF_UNIT_BLOCK, STRIDE, UNIT_STRIDE};
 use std::simd::Simd;
 use std::simd::prelude::*;
@@ -45,8 +45,8 @@ impl<'a> AllPass<STRIDE, HALF_UNIT_BLOCK> for UnitsBelow<'a> {
     }
 }
 
-/// Returns zero in the bytes of those of the 32 code units from `at` on that are below the bound, as words of 64 bits are
-/// tested: to get a mask, x86-64 would pack the units first, and ARM has no instruction for one.
+/// Words of 64 bits are tested: to get a mask, x86-64 would pack the units first, and ARM has no instruction
+/// for one.
 #[inline(always)]
 fn others_of_32(units: &[u16], at: usize, bound: u16) -> u8x64
     requires { at + 32 ≤ length units.now }
@@ -58,7 +58,6 @@ fn others_of_32(units: &[u16], at: usize, bound: u16) -> u8x64
         .to_le_bytes()
 }
 
-/// Returns whether each lane of a block is zero.
 #[inline(always)]
 fn is_zero_block(lanes: u8x64) -> bool
     ensures { IsTrue result ↔ IsZeroTo lanes 64 }
@@ -66,7 +65,6 @@ fn is_zero_block(lanes: u8x64) -> bool
     u64x8::from_le_bytes(lanes).reduce_or() == 0
 }
 
-/// Returns whether each of the N UTF-16 code units from `at` on is below the bound.
 #[inline(always)]
 pub fn are_units_below<const N: usize>(units: &[u16], at: usize, bound: u16) -> bool
     requires { (at + N ≤ length units.now) × (0 < N) × (N ≤ 64) }
@@ -75,32 +73,15 @@ pub fn are_units_below<const N: usize>(units: &[u16], at: usize, bound: u16) -> 
     AllPass::<N, N>::pass(&UnitsBelow { units, bound }, at)
 }
 
-/// Returns how many of the N UTF-16 code units from `at` on precede the first that isn't below the bound.
 #[inline(always)]
 pub fn units_run_len_below<const N: usize>(units: &[u16], at: usize, bound: u16) -> usize
     requires { (at + N ≤ length units.now) × (0 < N) × (N ≤ 64) }
     ensures { IsRunBelow bound units.now at N result }
 {
-    run::<N, _>(&UnitsBelow { units, bound }, at)
+    run_length::<N, _>(&UnitsBelow { units, bound }, at)
 }
 
-/// Returns the length of the longest prefix of UTF-16 code units below the bound.
-#[inline(always)]
-pub fn units_prefix_len_below(units: &[u16], bound: u16) -> usize
-    ensures within { result ≤ length units.now }
-    ensures below { BelowUpTo bound units.now result }
-    ensures stops { result < length units.now → bound ≤ slice_index units.now result }
-{
-    let test = UnitsBelow { units, bound };
-    match units.len() {
-        ..UNIT_STRIDE => skip::<1, 1, _>(&test, 0, units.len()),
-        ..HALF_UNIT_BLOCK => find::<UNIT_STRIDE, _>(&test, 0, units.len()),
-        _ => find::<HALF_UNIT_BLOCK, _>(&test, 0, units.len()),
-    }
-}
-
-/// Skips UTF-16 code units from the start that are below the bound, by vectors, and returns how many: all if all are. A unit
-/// that isn't may follow others that are, which are not skipped.
+/// By vectors, so it may stop earlier than the first unit that isn't below the bound.
 #[inline(always)]
 pub fn skip_units_below(units: &[u16], bound: u16) -> usize
     ensures within { result ≤ length units.now }
@@ -111,7 +92,7 @@ pub fn skip_units_below(units: &[u16], bound: u16) -> usize
     match units.len() {
         ..UNIT_STRIDE if pass_short::<UNIT_STRIDE, _>(&test, units.len()) => units.len(),
         ..UNIT_STRIDE => 0,
-        ..HALF_UNIT_BLOCK => reach::<UNIT_STRIDE, UNIT_STRIDE, _>(&test, 0, units.len()),
-        _ => reach::<STRIDE, HALF_UNIT_BLOCK, _>(&test, 0, units.len()),
+        ..HALF_UNIT_BLOCK => skip_to_end::<UNIT_STRIDE, UNIT_STRIDE, _>(&test, 0, units.len()),
+        _ => skip_to_end::<STRIDE, HALF_UNIT_BLOCK, _>(&test, 0, units.len()),
     }
 }

@@ -43,4 +43,6 @@ pub const ASCII_END: u8 = 0x80;
 pub const BASIC_LATIN_END: u16 = 0x80;
 
 /// The indices of the lanes of a stride.
-pub(crate) const LANES: [u8; STRIDE] = [0, 1, 2, 3, 4, 5, 6, 7, 8, 9, 10, 11, 12, 13, 14, 15];
+pub(crate) const LANE_INDICES: [u8; STRIDE] = [
+    0, 1, 2, 3, 4, 5, 6, 7, 8, 9, 10, 11, 12, 13, 14, 15,
+];

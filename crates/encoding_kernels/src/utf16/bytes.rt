@@ -1,7 +1,8 @@
-//! UTF-16LE and UTF-16BE, whose code units are two bytes each, by vectors of sixteen code units. `big` says that the more
-//! significant byte comes first.
+//! UTF-16LE and UTF-16BE, whose code units are two bytes each, by vectors of sixteen code units. `big` says that the
+//! more significant byte comes first.
 
-ghost use Rattle.std.specs.Prelude.{◌≡◌, ℕ, List, ◌+◌, ◌-◌, ◌*◌, ◌<◌, ◌≤◌, ◌++◌, IsTrue, length, take, drop, slice_index};
+ghost use Rattle.std.specs.Prelude.{◌≡◌, ℕ, List, ◌+◌, ◌-◌, ◌*◌, ◌<◌, ◌≤◌, ◌++◌};
+ghost use Rattle.std.specs.Prelude.{IsTrue, length, take, drop, slice_index};
 ghost use Rattle.encoding_definitions.specs.Prefixes.{WritesPrefix};
 ghost use Rattle.encoding_definitions.specs.Utf16.{AreCodeUnits};
 ghost use Rattle.encoding_kernels.specs.Scans.{AllBelow, BelowUpTo};
@@ -9,7 +10,7 @@ ghost use Rattle.encoding_kernels.specs.UnitBytes.{bytes_in, units_of};
 
 use crate::simd::copy::{pack, pack_first};
 use crate::simd::units::units_run_len_below;
-use crate::simd::width::{BASIC_LATIN_END, HALF_STRIDE, LANES, STRIDE, UNIT_BLOCK};
+use crate::simd::width::{BASIC_LATIN_END, HALF_STRIDE, LANE_INDICES, STRIDE, UNIT_BLOCK};
 use crate::utf16_to_utf8::two_byte::are_ascii;
 use std::simd::prelude::*;
 
@@ -19,7 +20,6 @@ fn are_code_units(big: bool, src: &[u8])
     ensures { AreCodeUnits (units_of big src.now) }
 {}
 
-/// Returns how many code units there are.
 #[inline(always)]
 pub(super) fn count_units(big: bool, pairs: &[[u8; 2]]) -> usize
     ensures count { result ≡ length (units_of big (bytes_in pairs.now)) }
@@ -29,7 +29,6 @@ pub(super) fn count_units(big: bool, pairs: &[[u8; 2]]) -> usize
     pairs.len()
 }
 
-/// Returns the bytes of the code units from index `at` on.
 #[inline(always)]
 pub(super) fn skip_units(big: bool, pairs: &[[u8; 2]], at: usize) -> &[[u8; 2]]
     requires { at ≤ length (units_of big (bytes_in pairs.now)) }
@@ -40,7 +39,6 @@ pub(super) fn skip_units(big: bool, pairs: &[[u8; 2]], at: usize) -> &[[u8; 2]]
     &pairs[at..]
 }
 
-/// Returns the bytes of the first `count` code units.
 #[inline(always)]
 pub(super) fn first_units(big: bool, pairs: &[[u8; 2]], count: usize) -> &[[u8; 2]]
     requires { count ≤ length (units_of big (bytes_in pairs.now)) }
@@ -50,7 +48,6 @@ pub(super) fn first_units(big: bool, pairs: &[[u8; 2]], count: usize) -> &[[u8; 
     &pairs[..count]
 }
 
-/// Returns the sixteen code units from index `at` on.
 #[inline(always)]
 pub(super) fn sixteen_units(big: bool, src: &[u8], at: usize) -> u16x16
     requires { 2 * at + 32 ≤ length src.now }
@@ -63,7 +60,6 @@ pub(super) fn sixteen_units(big: bool, src: &[u8], at: usize) -> u16x16
     (units << u16x16::splat(8)) + (units >> u16x16::splat(8))
 }
 
-/// Returns the eight code units from index `at` on.
 #[inline(always)]
 pub(super) fn eight_units(big: bool, src: &[u8], at: usize) -> u16x8
     requires { 2 * at + 16 ≤ length src.now }
@@ -76,7 +72,6 @@ pub(super) fn eight_units(big: bool, src: &[u8], at: usize) -> u16x8
     (units << u16x8::splat(8)) + (units >> u16x8::splat(8))
 }
 
-/// Returns the code unit at index `at`.
 #[inline(always)]
 pub(super) fn unit_at(big: bool, src: &[u8], at: usize) -> u16
     requires { 2 * at + 2 ≤ length src.now }
@@ -90,8 +85,7 @@ pub(super) fn unit_at(big: bool, src: &[u8], at: usize) -> u16
     first + 0x100 * second
 }
 
-/// Returns the first `count` of eight to sixteen code units, followed by any others: the first eight, and those of the last eight
-/// after these. Uses only vectors, since a load of what two stores wrote would stall on store forwarding.
+/// Uses only vectors, since a load of what two stores wrote would stall on store forwarding.
 #[inline(always)]
 pub(super) fn joined_eights(first: u16x8, last: u16x8, count: usize) -> u16x16
     requires lane_count { (length first ≡ 8) × (length last ≡ 8) }
@@ -100,7 +94,7 @@ pub(super) fn joined_eights(first: u16x8, last: u16x8, count: usize) -> u16x16
     ensures lanes { take count result ≡ first ++ drop (16 - count) last }
 {
     let overlap = u8x16::splat((2 * (STRIDE - count)) as u8);
-    let places = (u8x16::from_array(LANES) + overlap) & u8x16::splat(15);
+    let places = (u8x16::from_array(LANE_INDICES) + overlap) & u8x16::splat(15);
     let following = u16x8::from_le_bytes(last.to_le_bytes().swizzle_dyn(places));
     first.shuffle(
         following,
@@ -108,7 +102,6 @@ pub(super) fn joined_eights(first: u16x8, last: u16x8, count: usize) -> u16x16
     )
 }
 
-/// Returns the first sixteen code units, followed by any others if there are fewer.
 #[inline(always)]
 pub(super) fn first_sixteen(big: bool, src: &[u8]) -> u16x16
     ensures { (length result ≡ 16) × (take (length (take 16 (units_of big src.now))) result
@@ -127,7 +120,6 @@ pub(super) fn first_sixteen(big: bool, src: &[u8]) -> u16x16
     sixteen_units(big, &bytes, 0)
 }
 
-/// Returns whether the 64 code units from index `at` on are ASCII.
 #[inline(always)]
 fn are_64_ascii(big: bool, src: &[u8], at: usize) -> bool
     requires { 2 * at + 128 ≤ length src.now }
@@ -140,8 +132,7 @@ fn are_64_ascii(big: bool, src: &[u8], at: usize) -> bool
     are_ascii((first | second) | (third | fourth))
 }
 
-/// Copies the ASCII prefix of the sixteen code units from index `at` on to the same index, each as a byte, and returns its length. One
-/// mask finds its end, without a branch that depends on the text.
+/// One mask finds the end of the prefix, without a branch that depends on the text.
 #[inline(always)]
 fn copy_ascii_of_sixteen(big: bool, src: &[u8], dst: &mut [u8], at: usize) -> usize
     requires within { (2 * at + 32 ≤ length src.now) × (at + 16 ≤ length dst.old) }
@@ -161,7 +152,7 @@ fn copy_ascii_of_sixteen(big: bool, src: &[u8], dst: &mut [u8], at: usize) -> us
     run
 }
 
-/// Writes twice sixteen ASCII code units from `at` on, each as a byte: of as many, AVX2 packs a whole vector at once.
+/// Takes 32 code units, from which AVX2 packs a whole vector at once.
 #[inline(always)]
 fn pack_two(first: u16x16, second: u16x16, dst: &mut [u8], at: usize)
     requires within { at + 32 ≤ length dst.old }
@@ -179,8 +170,7 @@ fn pack_two(first: u16x16, second: u16x16, dst: &mut [u8], at: usize)
     lower.cast::<u8>().copy_to_slice(&mut dst[at..]);
 }
 
-/// Copies the 64 code units from index `at` on to the same index, each as a byte. All are loaded before the first store, so that
-/// none is loaded again after a test.
+/// All are loaded before the first store, so that none is loaded again after a test.
 #[inline(always)]
 fn pack_64(big: bool, src: &[u8], dst: &mut [u8], at: usize)
     requires within { (2 * at + 128 ≤ length src.now) × (at + 64 ≤ length dst.old) }
@@ -197,7 +187,6 @@ fn pack_64(big: bool, src: &[u8], dst: &mut [u8], at: usize)
     pack_two(third, fourth, dst, at + 2 * STRIDE);
 }
 
-/// Copies the longest ASCII prefix of as many code units as `dst` holds, each as a byte, and returns its length.
 #[inline(always)]
 pub fn copy_ascii_units(big: bool, src: &[u8], dst: &mut [u8]) -> usize
     requires { 2 * length dst.old ≤ length src.now }

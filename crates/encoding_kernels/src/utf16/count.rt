@@ -7,7 +7,7 @@ ghost use Rattle.encoding_kernels.specs.Counts.{begins_pair, bool_few};
 ghost use mir.Val.{bool_byte};
 
 use crate::simd::scan::skip;
-use crate::simd::sum::{Terms, sum_from};
+use crate::simd::sum::{LANES, Terms, sum_from};
 use crate::simd::units::UnitsBelow;
 use crate::simd::width::{HALF_UNIT_BLOCK, STRIDE, UNIT_STRIDE};
 use crate::tuning::UTF16_LENGTH_SPAN;
@@ -15,13 +15,10 @@ use crate::utf16::length::unit_at;
 use std::simd::Simd;
 use std::simd::prelude::*;
 
-/// The number of lanes.
-const LANES: usize = 32;
-
 /// The least surrogate.
 const FIRST_SURROGATE: u16 = 0xD800;
 
-/// Returns, without a branch, whether two code units are a surrogate pair.
+/// Without a branch.
 #[inline(always)]
 fn is_pair(unit: u16, next: u16) -> bool
     ensures { result ≡ is_surrogate_pair unit next }
@@ -29,7 +26,6 @@ fn is_pair(unit: u16, next: u16) -> bool
     (unit & 0xFC00 == 0xD800) & (next & 0xFC00 == 0xDC00)
 }
 
-/// Returns 1 in each lane in which the two code units are a surrogate pair, and 0 in the others.
 #[inline(always)]
 fn pair_lanes<const N: usize>(units: Simd<u16, N>, next: Simd<u16, N>) -> Simd<u8, N>
     ensures { HasLanes N result
@@ -99,8 +95,6 @@ impl<'a, const N: usize> Terms<N> for Pairs<'a> {
     ghost few = { λ _ xs. bool_few (is_surrogate_pair (slice_index xs 0) (slice_index xs 1)) };
 }
 
-/// Returns the number of characters and unpaired surrogates in the code units: that of the units, less one for each
-/// pair.
 pub fn parts_of_units(units: &[u16]) -> usize
     ensures { (parts : List Part16) × ArePartsOf16 units.now parts × (result ≡ length parts) }
 {

@@ -5,18 +5,14 @@ ghost use Rattle.encoding_kernels.specs.Scans.{BelowUpTo, HasLanes};
 ghost use Rattle.encoding_kernels.specs.Lengths.{extra_bytes, extra_bytes_by, extra_bytes_few, fewer};
 
 use crate::simd::scan::{pass_short, skip};
-use crate::simd::sum::{Terms, sum_from};
+use crate::simd::sum::{LANES, Terms, sum_from};
 use crate::simd::units::UnitsBelow;
 use crate::simd::width::{BASIC_LATIN_END, HALF_UNIT_BLOCK, STRIDE, UNIT_BLOCK, UNIT_STRIDE};
 use crate::tuning::UTF16_LENGTH_SPAN;
 use std::simd::Simd;
 use std::simd::prelude::*;
 
-/// The number of lanes.
-const LANES: usize = 32;
-
-/// Returns, without a branch, how many bytes beyond one the UTF-8 of a code unit has: none for the first unit of a
-/// pair, and two for the second.
+/// Without a branch. The first unit of a pair has none, and the second two.
 #[inline(always)]
 fn bytes_beyond(unit: u16, next: u16) -> usize
     ensures { result ≡ extra_bytes_by unit next }
@@ -25,7 +21,6 @@ fn bytes_beyond(unit: u16, next: u16) -> usize
     usize::from(single & (unit >= 0x80)) + usize::from(single & (unit >= 0x800))
 }
 
-/// Returns, in each lane, how many bytes beyond one the UTF-8 of the code unit has.
 #[inline(always)]
 fn beyond_lanes<const N: usize>(units: Simd<u16, N>, next: Simd<u16, N>) -> Simd<u8, N>
     ensures { HasLanes N result
@@ -40,7 +35,7 @@ fn beyond_lanes<const N: usize>(units: Simd<u16, N>, next: Simd<u16, N>) -> Simd
     (high & low).select(zero, second + third).cast::<u8>()
 }
 
-/// Returns the code unit at an index, and zero past the last.
+/// Returns zero past the last code unit.
 #[inline(always)]
 pub(super) fn unit_at(units: &[u16], at: usize) -> u16
     ensures { result ≡ slice_index units.now at }
@@ -104,7 +99,7 @@ impl<'a, const N: usize> Terms<N> for Beyond<'a> {
     ghost few = { λ _ xs. extra_bytes_few xs };
 }
 
-/// Returns the length of an ASCII prefix: of the whole text if it is ASCII and has at most 64 code units, and else none.
+/// Only a whole text of at most 64 code units is tested.
 #[inline(always)]
 fn short_ascii_len(units: &[u16]) -> usize
     ensures { (result ≤ length units.now) × BelowUpTo 0x80 units.now result }
@@ -118,7 +113,6 @@ fn short_ascii_len(units: &[u16]) -> usize
     0
 }
 
-/// Returns the number of bytes in the UTF-8 of the code units, with U+FFFD for each unpaired surrogate.
 pub fn utf8_length_of_units(units: &[u16]) -> usize
     ensures { (text : List ℕ) × IsUtf8OfUnits units.now text × (result ≡ length text) }
 {

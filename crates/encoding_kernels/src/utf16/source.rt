@@ -1,5 +1,5 @@
-//! Sources of code units: an array of them, and the bytes of UTF-16LE or UTF-16BE. A conversion that is generic over its source
-//! reads either without a copy.
+//! Sources of code units: an array of them, and the bytes of UTF-16LE or UTF-16BE. A conversion that is generic over
+//! its source reads either without a copy.
 
 ghost use Rattle.std.specs.Prelude.{◌≡◌, ◌+◌, ◌-◌, ◌<◌, ◌≤◌, ℕ, List, length, take, drop, slice_index};
 ghost use Rattle.encoding_definitions.specs.Utf16.{AreCodeUnits};
@@ -15,43 +15,35 @@ use std::simd::prelude::*;
 pub trait CodeUnits: Copy {
     ghost units: { Self → List ℕ };
 
-    /// Returns how many there are.
     fn count(self) -> usize
         ensures count { result ≡ length (units self) }
         ensures code_units { AreCodeUnits (units self) };
 
-    /// Returns the code unit at index `at`.
     fn unit_at(self, at: usize) -> u16
         requires { at < length (units self) }
         ensures { result ≡ slice_index (units self) at };
 
-    /// Returns the sixteen code units from index `at` on.
     fn sixteen(self, at: usize) -> u16x16
         requires { at + 16 ≤ length (units self) }
         ensures { result ≡ take 16 (drop at (units self)) };
 
-    /// Returns the eight code units from index `at` on.
     fn eight(self, at: usize) -> u16x8
         requires { at + 8 ≤ length (units self) }
         ensures { result ≡ take 8 (drop at (units self)) };
 
-    /// Returns the first sixteen code units, followed by any others if there are fewer.
     fn first_sixteen(self) -> u16x16
         ensures { (length result ≡ 16)
             × (take (length (take 16 (units self))) result ≡ take 16 (units self)) };
 
-    /// Returns the code units from index `at` on.
     fn skip(self, at: usize) -> Self
         requires { at ≤ length (units self) }
         ensures { units result ≡ take (length (units self) - at) (drop at (units self)) };
 
-    /// Returns the first `count` code units.
     fn first(self, count: usize) -> Self
         requires { count ≤ length (units self) }
         ensures { units result ≡ take count (units self) };
 }
 
-/// Returns how many code units there are.
 #[inline(always)]
 fn count_of(src: &[u16]) -> usize
     ensures count { result ≡ length src.now }

@@ -1,5 +1,5 @@
-//! The number of unpaired surrogates in UTF-16. One stands where a low surrogate doesn't follow a high one, or where a high
-//! one isn't followed by a low one: each pair of neighbors has at most one such fault.
+//! The number of unpaired surrogates in UTF-16. A surrogate is unpaired if the unit next to it isn't its other half.
+//! Two adjacent units have at most one such fault, so faults are counted between units.
 ghost use Rattle.std.specs.Prelude.{◌≡◌, ◌-◌, ◌+◌, ◌<◌, ◌≤◌, length, slice_index};
 ghost use Rattle.encoding_definitions.specs.Surrogates.{HasUnpaired};
 ghost use Rattle.encoding_kernels.specs.Scans.{HasLanes};
@@ -10,7 +10,7 @@ ghost use mir.Val.{bool_byte};
 
 use crate::scalar::is_low_surrogate;
 use crate::simd::scan::skip;
-use crate::simd::sum::{Terms, sum_from};
+use crate::simd::sum::{LANES, Terms, sum_from};
 use crate::simd::units::UnitsBelow;
 use crate::simd::width::{HALF_UNIT_BLOCK, STRIDE, UNIT_STRIDE};
 use crate::tuning::UTF16_LENGTH_SPAN;
@@ -18,13 +18,10 @@ use crate::utf16::length::unit_at;
 use std::simd::Simd;
 use std::simd::prelude::*;
 
-/// The number of lanes.
-const LANES: usize = 32;
-
 /// The least surrogate.
 const FIRST_SURROGATE: u16 = 0xD800;
 
-/// Returns, without a branch, whether a unit is a low surrogate or the one before it a high one, and not both.
+/// Without a branch.
 #[inline(always)]
 fn is_fault(unit: u16, before: u16) -> bool
     ensures { result ≡ pair_fault unit before }
@@ -32,7 +29,6 @@ fn is_fault(unit: u16, before: u16) -> bool
     (unit & 0xFC00 == 0xDC00) != (before & 0xFC00 == 0xD800)
 }
 
-/// Returns 1 in each lane with such a fault, and 0 in the others.
 #[inline(always)]
 fn fault_lanes<const N: usize>(units: Simd<u16, N>, before: Simd<u16, N>) -> Simd<u8, N>
     ensures { HasLanes N result
@@ -103,7 +99,6 @@ impl<'a, const N: usize> Terms<N> for Faults<'a> {
     ghost few = { λ _ xs. bool_few (pair_fault (slice_index xs 1) (slice_index xs 0)) };
 }
 
-/// Returns the number of unpaired surrogates in the code units.
 pub fn unpaired_of_units(units: &[u16]) -> usize
     ensures { HasUnpaired units.now result }
 {

@@ -1,5 +1,5 @@
-//! Code units without an unpaired surrogate, by vectors. Each unit is judged by itself and the one before it, which is loaded
-//! separately, so that a block carries no state and the last one may overlap.
+//! Code units without an unpaired surrogate, by vectors. Each unit is judged by itself and the one before it, which
+//! is loaded separately, so that a block carries no state and the last one may overlap.
 
 ghost use Rattle.std.specs.Prelude.{◌≡◌, false, ◌+◌, ◌-◌, ◌*◌, ◌<◌, ◌≤◌, ◌↔◌, ◌∷◌, length, take, slice_index, IsTrue};
 ghost use Rattle.encoding_definitions.specs.Utf16.{IsHighSurrogate};
@@ -7,7 +7,7 @@ ghost use Rattle.encoding_kernels.specs.Neighbors.{PairUp, HaveNoSurrogate, pair
 ghost use Rattle.encoding_definitions.specs.Surrogates.{IsValidUtf16};
 
 use crate::scalar::{is_high_surrogate, is_low_surrogate};
-use crate::simd::scan::{LanePredicate, Test, run};
+use crate::simd::scan::{LanePredicate, Test, run_length};
 use crate::simd::width::{HALF_STRIDE, STRIDE};
 use std::simd::Simd;
 use std::simd::prelude::*;
@@ -36,7 +36,7 @@ impl<'a, const N: usize> LanePredicate<N> for UnitPairs<'a> {
     }
 }
 
-/// Returns whether none of the code units of a block is a surrogate, by one test.
+/// By one test.
 #[inline(always)]
 pub fn has_no_surrogate(block: &[u16]) -> bool
     requires { length block.now ≡ 64 }
@@ -51,7 +51,7 @@ pub fn has_no_surrogate(block: &[u16]) -> bool
     !lowest.simd_lt(Simd::splat(0x800)).any()
 }
 
-/// Returns whether the code unit before `at` is a high surrogate. None is before the first.
+/// No unit is before the first.
 #[inline(always)]
 pub fn is_after_high_surrogate(units: &[u16], at: usize) -> bool
     requires { at ≤ length units.now }
@@ -60,9 +60,6 @@ pub fn is_after_high_surrogate(units: &[u16], at: usize) -> bool
     at > 0 && is_high_surrogate(units[at - 1])
 }
 
-/// Returns whether each of the N code units from `at` on is a low surrogate if and only if it follows a high one. H is
-/// half of N.
-///
 /// No unit is before the first. So the first N have a pair of neighbors less, which two tests of H cover.
 #[inline(always)]
 pub fn are_paired<const N: usize, const H: usize>(units: &[u16], at: usize) -> bool
@@ -80,8 +77,6 @@ pub fn are_paired<const N: usize, const H: usize>(units: &[u16], at: usize) -> b
     (LanePredicate::<H>::failing(&test, 0) == 0) & (LanePredicate::<H>::failing(&test, H - 1) == 0)
 }
 
-/// Returns how many of the units of the stride at `at` precede the first that is a low surrogate without following a
-/// high one, or follows a high one without being a low one.
 #[inline(always)]
 pub fn paired_run(units: &[u16], at: usize) -> usize
     requires { at + 16 ≤ length units.now }
@@ -89,20 +84,19 @@ pub fn paired_run(units: &[u16], at: usize) -> usize
 {
     let test = UnitPairs { units };
     if at > 0 {
-        return run::<STRIDE, _>(&test, at - 1);
+        return run_length::<STRIDE, _>(&test, at - 1);
     }
     if is_low_surrogate(units[0]) {
         return 0;
     }
-    let first = run::<HALF_STRIDE, _>(&test, 0);
+    let first = run_length::<HALF_STRIDE, _>(&test, 0);
     if first < HALF_STRIDE {
         return first + 1;
     }
-    HALF_STRIDE + run::<HALF_STRIDE, _>(&test, HALF_STRIDE - 1)
+    HALF_STRIDE + run_length::<HALF_STRIDE, _>(&test, HALF_STRIDE - 1)
 }
 
-/// Returns `at`, or the index before it if a pair is cut at `at`.
-#[tactic(auto, using(crate::proofs::PairsLemmas::valid_start, crate::proofs::PairsLemmas::valid_whole, crate::proofs::PairsLemmas::valid_cut))]
+#[tactic(auto, using(crate::proofs::PairsLemmas::cut_pairs))]
 #[inline(always)]
 pub fn before_cut_pair(units: &[u16], at: usize) -> usize
     requires { (at ≤ length units.now) × PairUp units.now 0 at }

@@ -12,9 +12,8 @@ use crate::simd::width::{BASIC_LATIN_END, HALF_STRIDE, STRIDE};
 use crate::utf16::bytes::copy_ascii_units;
 use crate::utf16::source::{CodeUnits, UnitBytes};
 
-/// Copies the ASCII prefix of `src`, each code unit as a byte, as far as `dst` holds it. Returns its length.
 #[inline(always)]
-fn copy_ascii<const BIG: bool>(src: UnitBytes<'_, BIG>, dst: &mut [u8]) -> usize
+fn copy_ascii_prefix<const BIG: bool>(src: UnitBytes<'_, BIG>, dst: &mut [u8]) -> usize
     ensures { WritesBmp (units_of BIG (bytes_in src.entry.pairs.now)) dst.old dst.new
         result result }
 {
@@ -25,8 +24,8 @@ fn copy_ascii<const BIG: bool>(src: UnitBytes<'_, BIG>, dst: &mut [u8]) -> usize
     copy_ascii_units(BIG, src.pairs.as_flattened(), &mut dst[..count])
 }
 
-/// Converts ASCII and blocks of other code units from the start of `src` by turns, until a surrogate is next or the end of `src`
-/// or `dst` is near. Returns how many code units it read and how many bytes it wrote.
+/// ASCII and blocks of other code units by turns, until a surrogate is next or the end of `src` or `dst` is
+/// near.
 #[inline(always)]
 fn convert_ascii_and_blocks<const BIG: bool>(
     src: UnitBytes<'_, BIG>,
@@ -39,7 +38,7 @@ fn convert_ascii_and_blocks<const BIG: bool>(
     let mut read = 0;
     let mut written = 0;
     loop {
-        let ascii = copy_ascii(src.skip(read), &mut dst[written..]);
+        let ascii = copy_ascii_prefix(src.skip(read), &mut dst[written..]);
         read += ascii;
         written += ascii;
         if read == count {
@@ -54,9 +53,8 @@ fn convert_ascii_and_blocks<const BIG: bool>(
     }
 }
 
-/// Converts ASCII and blocks of other code units from the start of `src`, and then blocks with surrogate pairs if one is next.
-/// Returns how many code units it read, how many bytes it wrote, and whether to go on with the next ones at once. If not, a
-/// single character stopped the blocks, or the end of `src` or `dst` is near.
+/// Also returns whether to continue with the next code units at once. If not, a single character stopped the
+/// blocks, or the end of `src` or `dst` is near.
 #[inline(always)]
 fn convert_blocks_and_pairs<const BIG: bool>(
     src: UnitBytes<'_, BIG>,
@@ -74,10 +72,9 @@ fn convert_blocks_and_pairs<const BIG: bool>(
     (read + units, written + bytes, units > 0)
 }
 
-/// Returns how many characters to convert one at a time before trying blocks: all if fewer than eight units are left, and
-/// otherwise `others`.
+/// How many characters to convert one at a time before trying blocks: all if fewer than eight units are left.
 #[inline(always)]
-fn single_characters(left: usize, others: usize) -> usize
+fn characters_before_retry(left: usize, others: usize) -> usize
     ensures { 0 < others → 0 < result }
 {
     if left < HALF_STRIDE {
@@ -87,8 +84,6 @@ fn single_characters(left: usize, others: usize) -> usize
     }
 }
 
-/// Converts the first characters of `src` to UTF-8, up to the first that doesn't fit into `dst`, an unpaired surrogate, or a high
-/// surrogate at the end. Returns how many code units it read and how many bytes it wrote. The rest of `dst` is unchanged.
 #[inline(never)]
 pub fn convert_up_to_unpaired<const BIG: bool>(
     src: UnitBytes<'_, BIG>,
@@ -102,7 +97,7 @@ pub fn convert_up_to_unpaired<const BIG: bool>(
 {
     let mut read = 0;
     let mut written = 0;
-    let mut singles = single_characters(src.count(), 0);
+    let mut singles = characters_before_retry(src.count(), 0);
     while read < src.count() {
         if singles == 0 {
             let (units, bytes, goes_on) = convert_blocks_and_pairs(
@@ -118,7 +113,7 @@ pub fn convert_up_to_unpaired<const BIG: bool>(
                 } else {
                     1
                 };
-                singles = single_characters(src.count() - read, others);
+                singles = characters_before_retry(src.count() - read, others);
             }
         } else {
             let Some(scalar) = character_at(src, read) else {

@@ -1,4 +1,5 @@
-//! The kinds of blocks of sixteen code units: each has its test and its conversion, and one loop converts a run of them.
+//! The kinds of blocks of sixteen code units: each has its test and its conversion, and one loop converts a run of
+//! them.
 
 ghost use Rattle.std.specs.Prelude.{◌≡◌, ℕ, List, IsTrue, ◌+◌, ◌*◌, ◌<◌, ◌≤◌, length, slice_index};
 ghost use Rattle.encoding_kernels.specs.Utf8Output.{ConvertsDue, StoresBlock};
@@ -18,12 +19,10 @@ pub(super) trait Block {
     // what its test says of sixteen code units
     ghost takes_all: { List ℕ → Type 0 };
 
-    /// Returns whether the sixteen code units are of this kind.
     fn takes(&self, units: u16x16) -> bool
         ensures { IsTrue result → takes_all units };
 
-    /// Converts sixteen code units of this kind. Returns how many bytes it wrote, and how many after these it may have
-    /// changed: none if it `restores` them.
+    /// Returns how many bytes it wrote, and how many after these it may have changed.
     fn convert(&self, units: u16x16, dst: &mut [u8], at: usize, restores: bool) -> (usize, usize)
         requires dst_length { (length units ≡ 16) × (at + 64 ≤ length dst.old) }
         requires kind { takes_all units }
@@ -109,10 +108,9 @@ impl Block for Mixed {
     }
 }
 
-/// Converts at most `most` code units from the start of `src`, while each sixteen are a block of the kind and sixteen
-/// more follow. At the start of `dst`, `due` bytes are still to be overwritten. Returns how many code units it read,
-/// how many bytes it wrote, and how many bytes after these are still to be overwritten, as sixteen code units do. `RESTORES`
-/// says that each block restores these.
+/// The first `due` bytes of `dst` hold the spill of the block before, which this run overwrites. Returns
+/// units read, bytes written, and the spill that it leaves. With `RESTORES`, each block restores what follows
+/// it.
 #[inline(always)]
 pub(super) fn convert_run<S: CodeUnits, T: Block, const RESTORES: bool>(
     block: &T,
@@ -144,8 +142,8 @@ pub(super) fn convert_run<S: CodeUnits, T: Block, const RESTORES: bool>(
     (read, written, spilled)
 }
 
-/// Converts as `convert_run` does, but only the last block restores what follows: each other is followed by one that overwrites it.
-/// A load from `dst` for each block would take longer than its stores.
+/// Only the last block restores what follows: each other is followed by one that overwrites it. A load from
+/// `dst` for each block would take longer than its stores.
 #[inline(always)]
 fn convert_joined_run<S: CodeUnits, T: Block>(
     block: &T,
@@ -185,7 +183,7 @@ fn convert_joined_run<S: CodeUnits, T: Block>(
     (read + STRIDE, written + bytes, spill)
 }
 
-/// Converts as `convert_run` does, by blocks that may change bytes after their own.
+/// By blocks that may change bytes after their own.
 #[inline(always)]
 pub(super) fn convert_spilling_run<S: CodeUnits, T: Block, const RESTORES: bool>(
     block: &T,

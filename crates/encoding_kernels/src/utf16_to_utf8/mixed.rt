@@ -1,7 +1,8 @@
 //! The UTF-8 of sixteen code units that are no surrogates: each has four bytes, and a table selects and orders those of
 //! its UTF-8.
 
-ghost use Rattle.std.specs.Prelude.{◌≡◌, ℕ, ◌+◌, ◌*◌, ◌<◌, ◌≤◌, ◌++◌, length, take, drop, slice_index, encode_utf8_all, IsTrue, ◌/◌, ◌%◌, List, replicate};
+ghost use Rattle.std.specs.Prelude.{◌≡◌, ℕ, ◌+◌, ◌*◌, ◌<◌, ◌≤◌, ◌++◌, length, take, drop, slice_index};
+ghost use Rattle.std.specs.Prelude.{encode_utf8_all, IsTrue, ◌/◌, ◌%◌, List, replicate};
 ghost use Rattle.encoding_definitions.specs.Prefixes.{WritesPrefix};
 ghost use Rattle.std.specs.Simd.Lanes.{mask_l};
 ghost use Rattle.encoding_kernels.specs.Utf8Output.{Spills};
@@ -17,7 +18,6 @@ const LOWER_BYTES: [usize; 32] = [
     26, 26, 28, 28, 30, 30,
 ];
 
-/// Returns whether none of the sixteen code units is a surrogate.
 #[tactic(auto, using(crate::proofs::MixedLemmas::all_plain))]
 #[inline(always)]
 pub(super) fn are_non_surrogate(units: u16x16) -> bool
@@ -28,7 +28,6 @@ pub(super) fn are_non_surrogate(units: u16x16) -> bool
     !tops.simd_eq(u16x16::splat(0xD800)).any()
 }
 
-/// Returns how many of the sixteen code units precede the first surrogate.
 #[inline(always)]
 pub(super) fn non_surrogate_prefix(units: u16x16) -> usize
     ensures within { result ≤ 16 }
@@ -39,8 +38,8 @@ pub(super) fn non_surrogate_prefix(units: u16x16) -> usize
     run_before::<16>(tops.simd_eq(u16x16::splat(0xD800)).to_bitmask())
 }
 
-/// Returns two bits for each of sixteen code units: whether it is ASCII, and whether it is below U+0800. A saturating
-/// subtraction leaves the highest bit of a lane set if the unit is below its bound.
+/// Two bits for each code unit: whether it is ASCII, and whether it is below U+0800. A saturating subtraction
+/// leaves the highest bit of a lane set if the unit is below its bound.
 #[inline(always)]
 fn mask_of_classes(units: u16x16) -> usize
     ensures upper_bound { result < 0x100000000 }
@@ -55,9 +54,8 @@ fn mask_of_classes(units: u16x16) -> usize
         .to_bitmask() as usize
 }
 
-/// Returns two words for each of sixteen code units, whose bytes its UTF-8 is made of. The first word has the unit itself,
-/// if it is ASCII, and the last byte of a longer sequence. The second has the first byte of three, and the one before the
-/// last.
+/// The first word has the unit itself, if it is ASCII, and the last byte of a longer sequence. The second has
+/// the first byte of three, and the one before the last.
 #[inline(always)]
 fn two_words(units: u16x16) -> (u16x16, u16x16)
     ensures lane_count { (length result.0 ≡ 16) × (length result.1 ≡ 16) }
@@ -75,8 +73,8 @@ fn two_words(units: u16x16) -> (u16x16, u16x16)
     (last, (units >> u16x16::splat(12)) + middle + mark)
 }
 
-/// Returns four bytes for each of sixteen code units, which its UTF-8 is made of. The first vector has those of the first
-/// four units of each eight, as AVX2 interleaves them, and the second those of the others.
+/// The first vector has the bytes of the first four units of each eight, as AVX2 interleaves them, and the
+/// second those of the others.
 #[inline(always)]
 fn four_bytes(units: u16x16) -> (u8x32, u8x32)
     ensures first_half { (k : ℕ) → k < 8 → EncodesBy (slice_index units (k / 4 * 4 + k))
@@ -98,8 +96,7 @@ fn four_bytes(units: u16x16) -> (u8x32, u8x32)
     (first.to_le_bytes(), second.to_le_bytes())
 }
 
-/// Returns the UTF-8 of twice four code units, given in four bytes each, at the start of two vectors, and the length of
-/// each.
+/// The UTF-8 at the start of each vector, and its length.
 #[inline(always)]
 fn encode_twice_four(bytes: u8x32, first: usize, second: usize) -> (u8x16, usize, u8x16, usize)
     requires { (first < 0x100) × (second < 0x100) }
@@ -122,7 +119,6 @@ fn encode_twice_four(bytes: u8x32, first: usize, second: usize) -> (u8x16, usize
     (lower, count, upper, more)
 }
 
-/// Returns the length of the UTF-8 of sixteen code units.
 #[inline(always)]
 fn length_of_sixteen(units: u16x16) -> usize
     requires { length units ≡ 16 }
@@ -135,7 +131,6 @@ fn length_of_sixteen(units: u16x16) -> usize
 /// The number of bytes that the blocks of sixteen code units may change after their own.
 pub(super) const SPILL: usize = 16;
 
-/// Stores the UTF-8 of sixteen code units, and returns its length.
 #[inline(always)]
 pub(super) fn store_mixed(units: u16x16, dst: &mut [u8], at: usize) -> usize
     requires dst_length { at + 64 ≤ length dst.old }
@@ -153,8 +148,7 @@ pub(super) fn store_mixed(units: u16x16, dst: &mut [u8], at: usize) -> usize
     length_of_sixteen(units)
 }
 
-/// Writes the UTF-8 of sixteen code units, and returns its length. The bytes after it are read before the stores and written
-/// back.
+/// The bytes after the UTF-8 are read before the stores and written back.
 #[inline(always)]
 pub(super) fn write_sixteen(units: u16x16, dst: &mut [u8], at: usize) -> usize
     requires dst_length { (length units ≡ 16) × (at + 64 ≤ length dst.old) }
@@ -168,8 +162,7 @@ pub(super) fn write_sixteen(units: u16x16, dst: &mut [u8], at: usize) -> usize
     written
 }
 
-/// Writes the UTF-8 of sixteen code units but for its last `zeros` bytes, and returns its length. Bytes after it are
-/// read before the stores and written back.
+/// The bytes after the UTF-8 are read before the stores and written back.
 #[inline(always)]
 pub(super) fn write_mixed(units: u16x16, zeros: usize, dst: &mut [u8]) -> usize
     requires dst_length { (length units ≡ 16) × (64 ≤ length dst.old) }
@@ -185,7 +178,6 @@ pub(super) fn write_mixed(units: u16x16, zeros: usize, dst: &mut [u8]) -> usize
     written
 }
 
-/// Returns the first `first` of sixteen code units, followed by zeros.
 #[inline(always)]
 pub(super) fn with_zeros(units: u16x16, first: usize) -> u16x16
     requires { (first ≤ 16) × (length units ≡ 16) }

@@ -1,17 +1,18 @@
 //! Blocks of code units that are below U+0800 or halves of a surrogate pair, which have two bytes each in UTF-8.
 
-ghost use Rattle.std.specs.Prelude.{◌≡◌, ℕ, ◌+◌, ◌*◌, ◌<◌, ◌≤◌, ◌++◌, length, take, drop, slice_index, IsTrue, nat_le, map, ◌⊎◌};
+ghost use Rattle.std.specs.Prelude.{◌≡◌, ℕ, ◌+◌, ◌*◌, ◌<◌, ◌≤◌, ◌++◌, length, take};
+ghost use Rattle.std.specs.Prelude.{drop, slice_index, IsTrue, nat_le, map, ◌⊎◌};
 ghost use Rattle.std.specs.Simd.Lanes.{mask_l};
 ghost use Rattle.encoding_definitions.specs.Utf16.{AreCodeUnits, IsHighSurrogate};
-ghost use Rattle.encoding_kernels.specs.SurrogatePairs.{AreTwoByteOrPaired, IsTwoByteOrHalf, EncodesHalf, half_bytes, concatenated, halves_from};
+ghost use Rattle.encoding_kernels.specs.SurrogatePairs.{AreTwoByteOrPaired, IsTwoByteOrHalf, EncodesHalf};
+ghost use Rattle.encoding_kernels.specs.SurrogatePairs.{half_bytes, concatenated, halves_from};
 
 use crate::scalar::{is_high_surrogate, is_low_surrogate};
 use crate::simd::compress::{keep_pairs, write_both};
 use crate::utf16::source::CodeUnits;
 use std::simd::prelude::*;
 
-/// Returns whether each of the sixteen code units from `at` on is below U+0800 or a half of a pair. The last pair may
-/// be cut.
+/// The last pair may be cut.
 #[inline(always)]
 pub(super) fn are_two_byte_or_paired<S: CodeUnits>(src: S, at: usize) -> bool
     requires within { (at + 17 ≤ length (S.units src)) × (at + 17 ≤ usize.MAX) }
@@ -30,8 +31,7 @@ pub(super) fn are_two_byte_or_paired<S: CodeUnits>(src: S, at: usize) -> bool
     !faults.any()
 }
 
-/// Returns two bytes for each of eight code units, which follow the units in `before`. A unit of one byte has an
-/// arbitrary second one.
+/// A unit of one byte has an arbitrary second one.
 #[inline(always)]
 fn bytes_of_halves(units: u16x8, before: u16x8) -> u8x16
     requires { (k : ℕ) → k < 8 → IsTwoByteOrHalf (slice_index units k) }
@@ -54,7 +54,6 @@ fn bytes_of_halves(units: u16x8, before: u16x8) -> u8x16
     all.to_le_bytes()
 }
 
-/// Returns the mask of the code units that aren't ASCII.
 #[inline(always)]
 fn mask_beyond_ascii(units: u16x8) -> usize
     ensures upper_bound { result < 256 }
@@ -63,8 +62,7 @@ fn mask_beyond_ascii(units: u16x8) -> usize
     units.simd_ge(u16x8::splat(0x80)).to_bitmask() as usize
 }
 
-/// Returns the UTF-8 of eight code units, which follow the units in `before`, at the start of the vector, and its
-/// length.
+/// The UTF-8 at the start of the vector, and its length.
 #[inline(always)]
 fn encode_halves(units: u16x8, before: u16x8) -> (u8x16, usize)
     requires { (k : ℕ) → k < 8 → IsTwoByteOrHalf (slice_index units k) }
@@ -76,7 +74,6 @@ fn encode_halves(units: u16x8, before: u16x8) -> (u8x16, usize)
     keep_pairs(bytes_of_halves(units, before), mask_beyond_ascii(units))
 }
 
-/// Returns 1 if the code unit at `at` is a high surrogate, and else 0.
 #[inline(always)]
 fn cut_halves<S: CodeUnits>(src: S, at: usize) -> usize
     requires { at < length (S.units src) }
@@ -90,8 +87,7 @@ fn cut_halves<S: CodeUnits>(src: S, at: usize) -> usize
     }
 }
 
-/// Writes the UTF-8 of sixteen code units below U+0800 or in pairs, or of fifteen if the last is a high surrogate.
-/// Returns how many code units and how many bytes these are. The rest of `dst` is unchanged.
+/// Takes fifteen code units if the last is a high surrogate.
 #[inline(always)]
 pub(super) fn write_two_byte_or_paired<S: CodeUnits>(
     src: S,

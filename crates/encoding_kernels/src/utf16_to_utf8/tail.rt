@@ -1,5 +1,5 @@
-//! Code units that no block takes: those at the end of a text or before a surrogate, and single characters. Nothing after
-//! the bytes that are written changes.
+//! Code units that no block takes: those at the end of a text or before a surrogate, and single characters. Nothing
+//! after the bytes that are written changes.
 
 ghost use Rattle.std.specs.Prelude.{◌≡◌, ◌+◌, ◌<◌, ◌≤◌, ℕ, length, take, drop, slice_index, IfSome, IfNone};
 ghost use Rattle.encoding_definitions.specs.Prefixes.{WritesPrefix};
@@ -20,8 +20,7 @@ use std::simd::prelude::*;
 /// The number of bytes that sixteen code units may change, with those that are written back.
 const ROOM: usize = 64;
 
-/// Returns the scalar value of the character at index `at`, or `None` if an unpaired surrogate is there. A high surrogate at the end
-/// is unpaired.
+/// Returns `None` if an unpaired surrogate is at `at`. A high surrogate at the end is unpaired.
 #[inline(always)]
 pub(super) fn character_at<S: CodeUnits>(src: S, at: usize) -> Option<u32>
     requires { at < length (S.units src) }
@@ -42,7 +41,6 @@ pub(super) fn character_at<S: CodeUnits>(src: S, at: usize) -> Option<u32>
     None
 }
 
-/// Returns the scalar value that is written for the first part of the code units from index `at` on.
 #[tactic(auto, using(crate::proofs::ScalarsLemmas::character_first, crate::proofs::ScalarsLemmas::unpaired_first))]
 #[inline(always)]
 pub fn scalar_at<S: CodeUnits>(src: S, at: usize) -> u32
@@ -55,8 +53,7 @@ pub fn scalar_at<S: CodeUnits>(src: S, at: usize) -> u32
     }
 }
 
-/// Converts those of the first sixteen code units that precede a surrogate, if they fit. Near the end of `dst` they are
-/// converted apart from it, so that nothing else is stored there.
+/// Near the end of `dst` the units are converted apart from it, so that nothing else is stored there.
 #[tactic(auto, using(crate::proofs::Utf16ToUtf8Lemmas::writes_none))]
 #[inline(always)]
 pub(super) fn convert_first_sixteen<S: CodeUnits>(src: S, dst: &mut [u8]) -> (usize, usize)
@@ -80,7 +77,7 @@ pub(super) fn convert_first_sixteen<S: CodeUnits>(src: S, dst: &mut [u8]) -> (us
     (first, written)
 }
 
-/// Converts those of the first sixteen code units that precede a surrogate, or the first character alone.
+/// Those of the first sixteen code units that precede a surrogate, or the first character.
 #[inline(always)]
 fn convert_some<S: CodeUnits>(src: S, dst: &mut [u8]) -> (usize, usize)
     requires { (0 < length (S.units src)) × (4 ≤ length dst.old) }
@@ -97,7 +94,7 @@ fn convert_some<S: CodeUnits>(src: S, dst: &mut [u8]) -> (usize, usize)
     (utf16_length(scalar), write_scalar(scalar, dst))
 }
 
-/// Converts the first characters of `src`, until at least sixteen bytes are written.
+/// At least sixteen bytes: they overwrite the spill of a block.
 pub(super) fn convert_spilled<S: CodeUnits>(src: S, dst: &mut [u8]) -> (usize, usize)
     requires lengths { (16 ≤ length (S.units src)) × (48 ≤ length dst.old) }
     requires code_units { AreCodeUnits (S.units src) }

@@ -1,5 +1,5 @@
-//! UTF-8 of code units by blocks of sixteen: the calls for a whole text, and the loops over runs of one kind of blocks. A
-//! conversion of blocks returns how many code units it read and how many bytes it wrote.
+//! UTF-8 of code units by blocks of sixteen: the calls for a whole text, and the loops over runs of one kind of
+//! blocks. A conversion of blocks returns how many code units it read and how many bytes it wrote.
 
 ghost use Rattle.std.specs.Prelude.{◌≡◌, ◌↔◌, ◌⊎◌, ◌+◌, ◌*◌, ◌<◌, ◌≤◌, length, take, IsTrue};
 ghost use Rattle.encoding_definitions.specs.Prefixes.{WritesPrefix};
@@ -16,10 +16,9 @@ use crate::tuning::{ASCII_RUN, MIXED_RUN, TWO_BYTE_RUN};
 use crate::utf16::source::CodeUnits;
 use std::simd::prelude::*;
 
-/// Converts blocks from the start of `src`, until many in a row are ASCII or have three bytes for each unit, or one has
-/// a surrogate, or the end is near. `due` and the last number returned are as for `convert_run`.
+/// Also stops if many blocks in a row are ASCII or have three bytes for each unit.
 #[inline(always)]
-fn convert_any_blocks<S: CodeUnits, const RESTORES: bool>(
+fn by_kinds<S: CodeUnits, const RESTORES: bool>(
     src: S,
     dst: &mut [u8],
     due: usize,
@@ -76,7 +75,6 @@ fn convert_any_blocks<S: CodeUnits, const RESTORES: bool>(
     (read, written, spilled)
 }
 
-/// Converts blocks of code units from U+0800 on from the start of `src`.
 #[inline(never)]
 fn convert_three_byte_blocks<S: CodeUnits>(
     src: S,
@@ -92,10 +90,9 @@ fn convert_three_byte_blocks<S: CodeUnits>(
     convert_run::<_, _, true>(&ThreeByte, src, dst, due, src.count())
 }
 
-/// Converts blocks from the start of `src`, until many in a row are ASCII, or one has a surrogate, or the end is near.
-/// Also returns how many bytes after its own are still to be overwritten.
+/// Also stops if many blocks in a row are ASCII.
 #[inline(always)]
-fn convert_due_blocks<S: CodeUnits, const RESTORES: bool>(
+fn with_three_byte_runs<S: CodeUnits, const RESTORES: bool>(
     src: S,
     dst: &mut [u8],
 ) -> (usize, usize, usize)
@@ -108,7 +105,7 @@ fn convert_due_blocks<S: CodeUnits, const RESTORES: bool>(
     let mut written = 0;
     let mut spilled = 0;
     while src.count() - read >= STRIDE + SPILL {
-        let (units, bytes, left) = convert_any_blocks::<S, RESTORES>(
+        let (units, bytes, left) = by_kinds::<S, RESTORES>(
             src.skip(read),
             &mut dst[written..],
             spilled,
@@ -134,18 +131,15 @@ fn convert_due_blocks<S: CodeUnits, const RESTORES: bool>(
     (read, written, spilled)
 }
 
-/// Converts blocks of sixteen code units from the start of `src`, and what these leave to overwrite.
+/// Also converts what overwrites the spill of the last block.
 #[inline(always)]
-fn convert_dense_blocks<S: CodeUnits, const RESTORES: bool>(
-    src: S,
-    dst: &mut [u8],
-) -> (usize, usize)
+fn settled<S: CodeUnits, const RESTORES: bool>(src: S, dst: &mut [u8]) -> (usize, usize)
     ensures converted { ConvertsPrefix (S.units src) dst.old dst.new result.0 result.1 }
     ensures restored { IsTrue RESTORES
         → WritesBmp (S.units src) dst.old dst.new result.0 result.1 }
 {
     let end = src.count().min(dst.len() / 3);
-    let (read, written, spilled) = convert_due_blocks::<S, RESTORES>(src.first(end), dst);
+    let (read, written, spilled) = with_three_byte_runs::<S, RESTORES>(src.first(end), dst);
     if spilled == 0 {
         return (read, written);
     }
@@ -153,8 +147,7 @@ fn convert_dense_blocks<S: CodeUnits, const RESTORES: bool>(
     (read + more, written + extra)
 }
 
-/// Returns whether a block may begin with the first of the `left` code units: not if it is a surrogate, and only near the end if
-/// it is ASCII.
+/// ASCII begins a block only near the end.
 #[inline(always)]
 fn begins_block(unit: u16, left: usize) -> bool
     ensures { IsTrue result ↔ (((0xD800 ≤ unit) × (unit ≤ 0xDFFF) → ⊥)
@@ -163,8 +156,7 @@ fn begins_block(unit: u16, left: usize) -> bool
     !is_surrogate(unit) && (unit >= BASIC_LATIN_END || left < STRIDE + SPILL)
 }
 
-/// Converts blocks of code units from the start of `src`, until ASCII or a surrogate is next. The last 31 units may
-/// be ASCII. Returns how many code units it read and how many bytes it wrote. The rest of `dst` is unchanged.
+/// Converts blocks until ASCII or a surrogate is next. The last 31 units may be ASCII.
 pub fn convert_blocks<S: CodeUnits, const RESTORES: bool>(src: S, dst: &mut [u8]) -> (usize, usize)
     ensures prefix { IsUtf8OfPrefix (S.units src) result.0 (take result.1 dst.new) }
     ensures unchanged_after { WritesPrefix dst.old dst.new result.1 (take result.1 dst.new) }
@@ -175,10 +167,7 @@ pub fn convert_blocks<S: CodeUnits, const RESTORES: bool>(src: S, dst: &mut [u8]
     let mut read = 0;
     let mut written = 0;
     while src.count() - read >= HALF_STRIDE && begins_block(src.unit_at(read), src.count() - read) {
-        let (dense, many) = convert_dense_blocks::<S, RESTORES>(
-            src.skip(read),
-            &mut dst[written..],
-        );
+        let (dense, many) = settled::<S, RESTORES>(src.skip(read), &mut dst[written..]);
         read += dense;
         written += many;
         if read == src.count() || !begins_block(src.unit_at(read), src.count() - read) {
@@ -194,9 +183,7 @@ pub fn convert_blocks<S: CodeUnits, const RESTORES: bool>(src: S, dst: &mut [u8]
     (read, written)
 }
 
-/// Converts blocks of code units from the start of `src` while they have surrogate pairs and their other units are
-/// below U+0800. Returns how many code units it read and how many bytes it wrote: no pair is cut, and no surrogate is unpaired.
-/// The rest of `dst` is unchanged.
+/// Converts blocks while they have surrogate pairs and their other units are below U+0800.
 #[inline(never)]
 pub fn convert_paired_blocks<S: CodeUnits>(src: S, dst: &mut [u8]) -> (usize, usize)
     ensures { WritesScalars (S.units src) dst.old dst.new result.0 result.1 }

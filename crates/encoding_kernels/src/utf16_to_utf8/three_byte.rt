@@ -1,11 +1,11 @@
 //! Blocks of code units from U+0800 on that are no surrogates.
 
-ghost use Rattle.std.specs.Prelude.{◌≡◌, ℕ, ◌+◌, ◌<◌, ◌≤◌, ◌++◌, length, take, drop, slice_index, encode_utf8_all, IsTrue};
+ghost use Rattle.std.specs.Prelude.{◌≡◌, ℕ, ◌+◌, ◌<◌, ◌≤◌, ◌++◌, length, take};
+ghost use Rattle.std.specs.Prelude.{drop, slice_index, encode_utf8_all, IsTrue};
 ghost use Rattle.encoding_kernels.specs.Utf8Output.{Spills};
 
 use std::simd::prelude::*;
 
-/// Returns whether each of the sixteen code units is from U+0800 on, and no surrogate.
 #[tactic(auto, using(crate::proofs::UniformLemmas::all_long))]
 #[inline(always)]
 pub(super) fn are_three_byte(units: u16x16) -> bool
@@ -17,8 +17,8 @@ pub(super) fn are_three_byte(units: u16x16) -> bool
     !others.any()
 }
 
-/// Returns the UTF-8 of eight code units from U+0800 on, three bytes for each, in two vectors. The first two bytes of
-/// each make a word and the last one another, so that no lane is wider than a code unit.
+/// The first two bytes of each unit make a word and the last one another, so that no lane is wider than a
+/// code unit.
 #[tactic(auto, using(crate::proofs::UniformLemmas::long_spelled))]
 #[inline(always)]
 fn encode_three_byte(units: u16x8) -> (u8x16, u8x8)
@@ -38,7 +38,6 @@ fn encode_three_byte(units: u16x8) -> (u8x16, u8x8)
     (first, both.shuffle(lasts, [11, 26, 12, 13, 28, 14, 15, 30]))
 }
 
-/// Writes the UTF-8 of eight code units from U+0800 on, which is 24 bytes.
 #[inline(always)]
 fn write_eight(units: u16x8, dst: &mut [u8], at: usize)
     requires dst_length { at + 24 ≤ length dst.old }
@@ -52,7 +51,6 @@ fn write_eight(units: u16x8, dst: &mut [u8], at: usize)
     second.copy_to_slice(&mut dst[at + 16..]);
 }
 
-/// Writes the UTF-8 of sixteen code units from U+0800 on, which is 48 bytes.
 #[inline(always)]
 pub(super) fn write_three_byte(units: u16x16, dst: &mut [u8], at: usize)
     requires dst_length { at + 48 ≤ length dst.old }

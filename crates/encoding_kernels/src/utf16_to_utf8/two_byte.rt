@@ -1,6 +1,7 @@
 //! Blocks of code units below U+0800: two bytes for each are computed, and a table selects those of its UTF-8.
 
-ghost use Rattle.std.specs.Prelude.{◌≡◌, ℕ, ◌+◌, ◌*◌, ◌<◌, ◌≤◌, ◌++◌, length, take, slice_index, encode_utf8_all, IsTrue, nat_le, map};
+ghost use Rattle.std.specs.Prelude.{◌≡◌, ℕ, ◌+◌, ◌*◌, ◌<◌, ◌≤◌, ◌++◌, length, take};
+ghost use Rattle.std.specs.Prelude.{slice_index, encode_utf8_all, IsTrue, nat_le, map};
 ghost use Rattle.std.specs.Simd.Lanes.{mask_l};
 ghost use Rattle.encoding_kernels.specs.KeptBytes.{EncodesTo};
 ghost use Rattle.encoding_kernels.specs.Utf8Output.{Spills};
@@ -9,7 +10,6 @@ use crate::simd::compress::{places_by, select_in_halves, store_two};
 use crate::simd::scan::is_zero;
 use std::simd::prelude::*;
 
-/// Returns whether each of the sixteen code units is ASCII.
 #[tactic(auto, using(crate::proofs::MaskLemmas::all_ascii))]
 #[inline(always)]
 pub(crate) fn are_ascii(units: u16x16) -> bool
@@ -18,7 +18,6 @@ pub(crate) fn are_ascii(units: u16x16) -> bool
     is_zero((units & u16x16::splat(0xFF80)).to_le_bytes())
 }
 
-/// Returns whether each of the sixteen code units is below U+0800.
 #[tactic(auto, using(crate::proofs::MaskLemmas::all_two_byte))]
 #[inline(always)]
 pub(super) fn are_two_byte(units: u16x16) -> bool
@@ -27,7 +26,7 @@ pub(super) fn are_two_byte(units: u16x16) -> bool
     is_zero((units & u16x16::splat(0xF800)).to_le_bytes())
 }
 
-/// Returns two bytes for each of sixteen code units: its UTF-8. A unit of one byte has an arbitrary second one.
+/// A unit of one byte has an arbitrary second one.
 #[inline(always)]
 fn both_bytes(units: u16x16) -> u8x32
     requires { (k : ℕ) → k < 16 → slice_index units k < 0x800 }
@@ -43,7 +42,6 @@ fn both_bytes(units: u16x16) -> u8x32
     takes_two.select(both, units).to_le_bytes()
 }
 
-/// Returns the mask of the code units that aren't ASCII.
 #[inline(always)]
 fn mask_of_others(units: u16x16) -> usize
     requires { (k : ℕ) → k < 16 → slice_index units k < 0x800 }
@@ -56,8 +54,7 @@ fn mask_of_others(units: u16x16) -> usize
         .to_bitmask() as usize
 }
 
-/// Returns the UTF-8 of sixteen code units below U+0800: that of the first eight at the start of a vector, with its
-/// length, and that of the others in the same way.
+/// The first eight are encoded at the start of one vector, and the others at the start of another.
 #[inline(always)]
 fn encode_two_byte(units: u16x16) -> (u8x16, usize, u8x16, usize)
     requires { (k : ℕ) → k < 16 → slice_index units k < 0x800 }
@@ -77,7 +74,6 @@ fn encode_two_byte(units: u16x16) -> (u8x16, usize, u8x16, usize)
     )
 }
 
-/// Stores the UTF-8 of sixteen code units below U+0800, and returns its length.
 #[inline(always)]
 pub(super) fn store_two_byte(units: u16x16, dst: &mut [u8], at: usize) -> usize
     requires dst_length { at + 32 ≤ length dst.old }
@@ -90,7 +86,6 @@ pub(super) fn store_two_byte(units: u16x16, dst: &mut [u8], at: usize) -> usize
     count + more
 }
 
-/// Returns the length of the UTF-8 of sixteen code units below U+0800.
 #[inline(always)]
 fn length_of_two_byte(units: u16x16) -> usize
     requires short { (k : ℕ) → k < 16 → slice_index units k < 0x800 }
@@ -101,8 +96,7 @@ fn length_of_two_byte(units: u16x16) -> usize
     count + more
 }
 
-/// Writes the UTF-8 of sixteen code units below U+0800, and returns its length. The bytes after it are read before the stores
-/// and written back.
+/// The bytes after the UTF-8 are read before the stores and written back.
 #[inline(always)]
 pub(super) fn write_two_byte(units: u16x16, dst: &mut [u8], at: usize) -> usize
     requires dst_length { at + 48 ≤ length dst.old }

@@ -7,20 +7,17 @@ ghost use Rattle.encoding_kernels.specs.Counts.{is_four_bytes, begins_four_bytes
 ghost use mir.Val.{bool_byte};
 
 use crate::simd::scan::{BytesBelow, prefix_len_below, skip};
-use crate::simd::sum::{Terms, sum_from};
+use crate::simd::sum::{LANES, Terms, sum_from};
 use crate::simd::width::{BLOCK, HALF_BLOCK, HALF_STRIDE};
 use crate::tuning::UTF8_LENGTH_SPAN;
 use crate::utf8::length::{byte_at, joins, utf16_length_of_utf8};
 use std::simd::Simd;
 use std::simd::prelude::*;
 
-/// The number of lanes.
-const LANES: usize = 32;
-
 /// The least byte that begins a character of four bytes.
 const FOUR_BYTE_LEAD: u8 = 0xF0;
 
-/// Returns, without a branch, whether four bytes are one character.
+/// Without a branch.
 #[inline(always)]
 fn is_four(lead: u8, second: u8, third: u8, fourth: u8) -> bool
     ensures { result ≡ is_four_bytes lead second third fourth }
@@ -30,7 +27,6 @@ fn is_four(lead: u8, second: u8, third: u8, fourth: u8) -> bool
         & ((fourth >= 0x80) & (fourth < 0xC0))
 }
 
-/// Returns 1 in each lane in which the four bytes are one character, and 0 in the others.
 #[inline(always)]
 fn four_lanes<const N: usize>(
     lead: Simd<u8, N>,
@@ -113,10 +109,10 @@ impl<'a, const N: usize> Terms<N> for FourBytes<'a> {
 
     ghost inside = { λ s. fewer (length s.bytes.now) 3 };
 
-    ghost few = { λ _ xs. bool_few (is_four_bytes (slice_index xs 0) (slice_index xs 1) (slice_index xs 2) (slice_index xs 3)) };
+    ghost few = { λ _ xs. bool_few
+        (is_four_bytes (slice_index xs 0) (slice_index xs 1) (slice_index xs 2) (slice_index xs 3)) };
 }
 
-/// Counts the characters of four bytes.
 #[inline(never)]
 pub(super) fn count_four_bytes(bytes: &[u8]) -> usize
     ensures { result ≡ sum_over_suffixes begins_four_bytes bytes.now }
@@ -126,8 +122,7 @@ pub(super) fn count_four_bytes(bytes: &[u8]) -> usize
     sum_from::<LANES, HALF_STRIDE, UTF8_LENGTH_SPAN, _, _>(&terms, &terms, shorter)
 }
 
-/// Returns the number of characters and malformed sequences in the bytes. Each has one code unit in UTF-16, except that
-/// a character of four bytes has two.
+/// Each part has one code unit in UTF-16, except that a character of four bytes has two.
 pub fn parts_of_utf8(bytes: &[u8]) -> usize
     ensures { (parts : List Part) × ArePartsOf bytes.now parts × (result ≡ length parts) }
 {

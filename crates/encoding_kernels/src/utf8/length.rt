@@ -2,19 +2,17 @@
 ghost use Rattle.std.specs.Prelude.{◌≡◌, ◌-◌, ◌+◌, ◌<◌, ◌≤◌, List, length, drop, slice_index};
 ghost use Rattle.encoding_definitions.specs.Parts.{Part, ArePartsOf, lossy_utf16};
 ghost use Rattle.encoding_kernels.specs.Scans.{BelowUpTo, HasLanes};
-ghost use Rattle.encoding_kernels.specs.Lengths.{sum_over_suffixes, goes_second, continuations, continuations_by, continuations_few, fewer};
+ghost use Rattle.encoding_kernels.specs.Lengths.{sum_over_suffixes, goes_second, continuations};
+ghost use Rattle.encoding_kernels.specs.Lengths.{continuations_by, continuations_few, fewer};
 
 use crate::simd::scan::{BytesBelow, pass_short, prefix_len_below, skip};
-use crate::simd::sum::{Terms, sum_from};
+use crate::simd::sum::{LANES, Terms, sum_from};
 use crate::simd::width::{ASCII_END, BLOCK, HALF_BLOCK, HALF_STRIDE};
 use crate::tuning::UTF8_LENGTH_SPAN;
 use std::simd::Simd;
 use std::simd::prelude::*;
 
-/// The number of lanes.
-const LANES: usize = 32;
-
-/// Returns, without a branch, whether `second` may be the second byte of several that begin with `lead`.
+/// Without a branch.
 #[inline(always)]
 pub(super) fn joins(lead: u8, second: u8) -> bool
     ensures { result ≡ goes_second lead second }
@@ -29,7 +27,7 @@ pub(super) fn joins(lead: u8, second: u8) -> bool
     begins & (second >= 0x80) & (second < 0xC0)
 }
 
-/// Counts, without a branch, how many of `second` and `third` continue the sequence that `lead` begins.
+/// Without a branch.
 #[inline(always)]
 fn joined_after(lead: u8, second: u8, third: u8) -> usize
     ensures { result ≡ continuations_by lead second third }
@@ -39,7 +37,6 @@ fn joined_after(lead: u8, second: u8, third: u8) -> usize
     usize::from(both) + usize::from(goes_on)
 }
 
-/// Counts, in each lane, how many of the lanes of `second` and `third` continue the sequence that `lead` begins.
 #[inline(always)]
 fn joined_lanes<const N: usize>(
     lead: Simd<u8, N>,
@@ -69,7 +66,7 @@ fn joined_lanes<const N: usize>(
     both.select(one, zero) + goes_on.select(one, zero)
 }
 
-/// Returns the byte at an index, and zero past the last.
+/// Returns zero past the last byte.
 #[inline(always)]
 pub(super) fn byte_at(bytes: &[u8], at: usize) -> u8
     ensures { result ≡ slice_index bytes.now at }
@@ -135,7 +132,6 @@ impl<'a, const N: usize> Terms<N> for Joined<'a> {
     ghost few = { λ _ xs. continuations_few xs };
 }
 
-/// Counts the bytes that are the second or the third of a sequence that an earlier one begins.
 #[inline(never)]
 fn count_joined(bytes: &[u8], ascii: usize) -> usize
     requires { ascii ≤ length bytes.now }
@@ -145,7 +141,7 @@ fn count_joined(bytes: &[u8], ascii: usize) -> usize
     sum_from::<LANES, HALF_STRIDE, UTF8_LENGTH_SPAN, _, _>(&terms, &terms, ascii)
 }
 
-/// Counts as `count_joined` does. Nothing is left to count if the text is ASCII.
+/// Nothing is left to count if the text is ASCII.
 #[tactic(auto, using(crate::proofs::SumLemmas::total_end))]
 #[inline(always)]
 fn count_joined_after(bytes: &[u8], ascii: usize) -> usize
@@ -158,7 +154,7 @@ fn count_joined_after(bytes: &[u8], ascii: usize) -> usize
     count_joined(bytes, ascii)
 }
 
-/// Returns the length of the ASCII prefix. Two vectors test a text of at most 64 bytes, which is often ASCII.
+/// Two vectors test a text of at most 64 bytes, which is often ASCII.
 #[inline(always)]
 fn ascii_prefix_len(bytes: &[u8]) -> usize
     ensures { (result ≤ length bytes.now) × BelowUpTo 0x80 bytes.now result }
@@ -170,7 +166,6 @@ fn ascii_prefix_len(bytes: &[u8]) -> usize
     prefix_len_below(bytes, ASCII_END)
 }
 
-/// Returns the number of code units in the UTF-16 of the bytes, with U+FFFD for each malformed sequence.
 pub fn utf16_length_of_utf8(bytes: &[u8]) -> usize
     ensures { (parts : List Part) × ArePartsOf bytes.now parts
         × (result ≡ length (lossy_utf16 parts)) }

@@ -1,8 +1,8 @@
-//! The tables of the look-ups that find the bytes that may not follow those before them: Keiser and Lemire, "Validating UTF-8
-//! In Less Than One Instruction Per Byte". Three tables, by the nibbles of two adjacent bytes, each leave some errors possible.
-//! An error has a bit, and is there if all three leave it.
+//! The tables of the look-ups that find the bytes that may not follow those before them: Keiser and Lemire,
+//! "Validating UTF-8 In Less Than One Instruction Per Byte". Three tables, by the nibbles of two adjacent bytes, each
+//! leave some errors possible. An error has a bit, and is there if all three leave it.
 
-use crate::simd::lookup::twice;
+use crate::simd::lookup::table;
 
 /// A first byte of several is followed by a byte that isn't a continuation byte.
 const TOO_SHORT: u8 = 1;
@@ -35,7 +35,7 @@ const ANY_LOW: u8 = TOO_SHORT | TOO_LONG | TWO_CONTINUATIONS;
 const ABOVE_F4: u8 = ANY_LOW | TOO_LARGE | OVERLONG_4;
 
 /// The errors that the high nibble of the previous byte leaves possible.
-pub(super) const BYTE_1_HIGH: [u8; 32] = twice![
+pub(super) const BYTE_1_HIGH: [u8; 32] = table![nibbles
     TOO_LONG,
     TOO_LONG,
     TOO_LONG,
@@ -55,7 +55,7 @@ pub(super) const BYTE_1_HIGH: [u8; 32] = twice![
 ];
 
 /// The errors that the low nibble of the previous byte leaves possible.
-pub(super) const BYTE_1_LOW: [u8; 32] = twice![
+pub(super) const BYTE_1_LOW: [u8; 32] = table![nibbles
     ANY_LOW | OVERLONG_2 | OVERLONG_3 | OVERLONG_4,
     ANY_LOW | OVERLONG_2,
     ANY_LOW,
@@ -75,7 +75,7 @@ pub(super) const BYTE_1_LOW: [u8; 32] = twice![
 ];
 
 /// The errors that the high nibble of the byte itself leaves possible.
-pub(super) const BYTE_2_HIGH: [u8; 32] = twice![
+pub(super) const BYTE_2_HIGH: [u8; 32] = table![nibbles
     TOO_SHORT,
     TOO_SHORT,
     TOO_SHORT,

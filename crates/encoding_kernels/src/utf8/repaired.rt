@@ -5,7 +5,7 @@ ghost use Rattle.encoding_kernels.specs.Scans.{HasLanes};
 ghost use Rattle.encoding_kernels.specs.Lengths.{sum_over_suffixes, fewer};
 ghost use Rattle.encoding_kernels.specs.RepairedLengths.{bytes_below_three, bytes_below_three_by, below_three_few};
 
-use crate::simd::sum::{Terms, sum_from};
+use crate::simd::sum::{LANES, Terms, sum_from};
 use crate::simd::width::{ASCII_END, HALF_STRIDE};
 use crate::tuning::UTF8_LENGTH_SPAN;
 use crate::utf8::count::{count_four_bytes, parts_of_utf8};
@@ -13,11 +13,7 @@ use crate::utf8::length::byte_at;
 use std::simd::Simd;
 use std::simd::prelude::*;
 
-/// The number of lanes.
-const LANES: usize = 32;
-
-/// Returns, without a branch, how many bytes below three the character has that `lead` begins: none unless it has one
-/// or two.
+/// Without a branch.
 #[inline(always)]
 fn below_three(lead: u8, second: u8) -> usize
     ensures { result ≡ bytes_below_three_by lead second }
@@ -29,7 +25,6 @@ fn below_three(lead: u8, second: u8) -> usize
     usize::from(two)
 }
 
-/// Returns, in each lane, how many bytes below three the character has that `lead` begins.
 #[inline(always)]
 fn below_three_lanes<const N: usize>(lead: Simd<u8, N>, second: Simd<u8, N>) -> Simd<u8, N>
     ensures { HasLanes N result (λ k. bytes_below_three_by (slice_index lead.entry k)
@@ -96,7 +91,7 @@ impl<'a, const N: usize> Terms<N> for BelowThree<'a> {
     ghost few = { λ _ xs. below_three_few xs };
 }
 
-/// Adds up how many bytes below three the characters of one and two bytes have.
+/// How many bytes below three the characters of one and two bytes have.
 #[inline(never)]
 fn sum_below_three(bytes: &[u8]) -> usize
     ensures { result ≡ sum_over_suffixes bytes_below_three bytes.now }
@@ -105,8 +100,6 @@ fn sum_below_three(bytes: &[u8]) -> usize
     sum_from::<LANES, HALF_STRIDE, UTF8_LENGTH_SPAN, _, _>(&terms, &terms, 0)
 }
 
-/// Returns the length of the UTF-8 of the bytes, with U+FFFD for each malformed sequence. `None` if it exceeds
-/// `usize::MAX`.
 pub fn repaired_length(bytes: &[u8]) -> Option<usize>
     ensures { (parts : List Part) × ArePartsOf bytes.now parts
         × SomeIff result (length (lossy_utf8 parts) ≤ usize.MAX) (length (lossy_utf8 parts)) }

@@ -1,19 +1,22 @@
-//! Validates UTF-8 by blocks of 64 bytes, and 8 to 64 bytes by one vector or two that may overlap. Look-ups find the bytes that
-//! may not follow those before them. The previous bytes are loaded separately, so that a block carries no state. ASCII before
-//! the blocks, and long runs of it between them, are the caller's.
+//! Validates UTF-8 by blocks of 64 bytes, and 8 to 64 bytes by one vector or two that may overlap. Look-ups find the
+//! bytes that may not follow those before them. The previous bytes are loaded separately, so that a block carries no
+//! state. ASCII before the blocks, and long runs of it between them, are the caller's.
 
-ghost use Rattle.std.specs.Prelude.{◌≡◌, ℕ, ◌+◌, ◌-◌, ◌*◌, ◌<◌, ◌≤◌, ◌∷◌, ◌++◌, length, take, drop, replicate, slice_index};
+ghost use Rattle.std.specs.Prelude.{◌≡◌, ℕ, ◌+◌, ◌-◌, ◌*◌, ◌<◌, ◌≤◌, ◌∷◌, ◌++◌};
+ghost use Rattle.std.specs.Prelude.{length, take, drop, replicate, slice_index};
 ghost use Rattle.encoding_kernels.specs.Scans.{BelowUpTo, HasLanes};
 ghost use Rattle.encoding_kernels.specs.Following.{IsValidAt, ValidUpTo};
 ghost use Rattle.std.specs.Str.{IsUtf8};
 
 use crate::simd::scan::{AllPass, BytesBelow, skip, zeros};
-use crate::simd::width::{ASCII_END, BLOCK, FOUR_BLOCKS, HALF_BLOCK, LANES, STRIDE, TWO_BLOCKS};
+use crate::simd::width::{
+    ASCII_END, BLOCK, FOUR_BLOCKS, HALF_BLOCK, LANE_INDICES, STRIDE, TWO_BLOCKS,
+};
 use crate::tuning::MOST_SKIPPED;
 use crate::utf8::lookups::{BYTE_1_HIGH, BYTE_1_LOW, BYTE_2_HIGH};
 use std::simd::prelude::*;
 
-/// Returns the first eight of eight to sixteen bytes, followed by the last eight, which may overlap.
+/// The two halves may overlap.
 #[inline(always)]
 pub(crate) fn first_and_last_eight(src: &[u8]) -> u8x16
     requires { (8 ≤ length src.now) × (length src.now ≤ 16) }
@@ -25,14 +28,13 @@ pub(crate) fn first_and_last_eight(src: &[u8]) -> u8x16
     )
 }
 
-/// Returns eight to sixteen bytes, followed by zeros: the first eight, and those of the last eight after
-/// these. Uses only loads, since a load of what two stores wrote would stall on store forwarding.
+/// Uses only loads, since a load of what two stores wrote would stall on store forwarding.
 #[inline(always)]
 pub(crate) fn with_zeros(src: &[u8]) -> u8x16
     requires { (8 ≤ length src.now) × (length src.now ≤ 16) }
     ensures { result ≡ src.now ++ drop (length src.now) (replicate 16 0) }
 {
-    let lanes = u8x16::from_array(LANES);
+    let lanes = u8x16::from_array(LANE_INDICES);
     let count = u8x16::splat(src.len() as u8);
     let both = first_and_last_eight(src);
     let following = (lanes + (u8x16::splat(16) - count)) & u8x16::splat(15);
@@ -41,7 +43,7 @@ pub(crate) fn with_zeros(src: &[u8]) -> u8x16
     lanes.simd_lt(count).select(bytes, u8x16::splat(0))
 }
 
-/// Returns for each lane the bytes three, two and one lanes before it, and zeros before the first.
+/// The bytes three, two and one lanes before each, and zeros before the first.
 #[inline(always)]
 pub(crate) fn lanes_before(block: u8x16) -> (u8x16, u8x16, u8x16)
     ensures three { HasLanes 16 result.0 (λ k. slice_index (0 ∷ 0 ∷ 0 ∷ block) k) }
@@ -71,8 +73,7 @@ pub(crate) fn lanes_before(block: u8x16) -> (u8x16, u8x16, u8x16)
     )
 }
 
-/// Returns the bytes three, two and one before each of the sixteen from `at` on. If BEFORE is 0, these are the first of the text,
-/// and zeros precede it.
+/// The bytes three, two and one before each of the sixteen. If BEFORE is 0, zeros precede the text.
 #[inline(always)]
 pub(crate) fn bytes_before<const BEFORE: usize>(src: &[u8], at: usize) -> (u8x16, u8x16, u8x16)
     requires { (BEFORE ≤ at) × (BEFORE < 3 → at ≡ 0) × (at + 16 ≤ length src.now) }
@@ -89,8 +90,7 @@ pub(crate) fn bytes_before<const BEFORE: usize>(src: &[u8], at: usize) -> (u8x16
     (three, two, one)
 }
 
-/// Returns the bytes three, two and one before each of the 32 from `at` on. If BEFORE is 0, these are the first of the text, and
-/// zeros precede it.
+/// The bytes three, two and one before each of the 32. If BEFORE is 0, zeros precede the text.
 #[inline(always)]
 fn bytes_before_32<const BEFORE: usize>(src: &[u8], at: usize) -> (u8x32, u8x32, u8x32)
     requires { (BEFORE ≤ at) × (BEFORE < 3 → at ≡ 0) × (at + 32 ≤ length src.now) }
@@ -129,8 +129,7 @@ fn bytes_before_32<const BEFORE: usize>(src: &[u8], at: usize) -> (u8x32, u8x32,
     (three, two, one)
 }
 
-/// Returns, for the sixteen bytes from `at` on, zero in each lane whose byte may follow the three before it. If BEFORE is 0, they are
-/// the first of the text.
+/// A lane is zero if its byte may follow the three before it.
 #[inline(always)]
 fn faults<const BEFORE: usize>(src: &[u8], at: usize) -> u8x16
     requires { (BEFORE ≤ at) × (BEFORE < 3 → at ≡ 0) × (at + 16 ≤ length src.now) }
@@ -148,8 +147,7 @@ fn faults<const BEFORE: usize>(src: &[u8], at: usize) -> u8x16
     (goes_on & u8x16::splat(0x80)) ^ pairs
 }
 
-/// Returns, for the 32 bytes from `at` on, zero in each lane whose byte may follow the three before it. If BEFORE is 0, they are the
-/// first of the text.
+/// A lane is zero if its byte may follow the three before it.
 #[inline(always)]
 fn faults_32<const BEFORE: usize>(src: &[u8], at: usize) -> u8x32
     requires { (BEFORE ≤ at) × (BEFORE < 3 → at ≡ 0) × (at + 32 ≤ length src.now) }
@@ -167,8 +165,7 @@ fn faults_32<const BEFORE: usize>(src: &[u8], at: usize) -> u8x32
     (goes_on & u8x32::splat(0x80)) ^ pairs
 }
 
-/// Returns how many of the 64 bytes from `at` on, or of all the bytes if they are fewer, precede the first that may not follow
-/// the three before it. If BEFORE is 0, they are the first of the text, and zeros precede it.
+/// If BEFORE is 0, the bytes are the first of the text, and zeros precede it.
 #[tactic(auto, using(crate::proofs::Utf8ValidationLemmas::ValidUpTo_over))]
 #[inline(always)]
 fn clean_of_64<const BEFORE: usize>(src: &[u8], at: usize) -> usize
@@ -195,7 +192,6 @@ fn clean_of_64<const BEFORE: usize>(src: &[u8], at: usize) -> usize
     last - at + zeros(second)
 }
 
-/// Returns how many of the 128 bytes from `at` on precede the first that may not follow the three before it.
 #[inline(always)]
 fn clean_of_128(src: &[u8], at: usize) -> usize
     requires { (3 ≤ at) × (at + 128 ≤ length src.now) }
@@ -209,8 +205,7 @@ fn clean_of_128(src: &[u8], at: usize) -> usize
     BLOCK + clean_of_64::<3>(src, at + BLOCK)
 }
 
-/// Returns how many of the 256 bytes from `at` on precede the first that may not follow the three before it. The tables are loaded
-/// once for all four blocks.
+/// The tables are loaded once for all four blocks.
 #[inline(always)]
 fn clean_of_256(src: &[u8], at: usize) -> usize
     requires { (3 ≤ at) × (at + 256 ≤ length src.now) }
@@ -224,9 +219,8 @@ fn clean_of_256(src: &[u8], at: usize) -> usize
     TWO_BLOCKS + clean_of_128(src, at + TWO_BLOCKS)
 }
 
-/// Returns `at`, or the start of the character that is cut there.
-#[tactic(auto, using(crate::proofs::Utf8ValidationLemmas::IsUtf8_before, crate::proofs::Utf8ValidationLemmas::IsUtf8_closed, crate::proofs::Utf8ValidationLemmas::IsClosedAt_tests))]
-fn back(src: &[u8], at: usize) -> usize
+#[tactic(auto, using(crate::proofs::Utf8ValidationLemmas::boundaries))]
+fn to_boundary(src: &[u8], at: usize) -> usize
     requires { (at ≤ length src.now) × ValidUpTo src.now at }
     ensures { (result ≤ at) × IsUtf8 (take result src.now) }
 {
@@ -245,10 +239,8 @@ fn back(src: &[u8], at: usize) -> usize
     at
 }
 
-/// Extends a prefix of `from` bytes that may each follow those before it by ASCII, 128 bytes at a time and at most a limited
-/// number of times, and returns the new length. The ASCII has to begin three bytes before `from`: then no character is cut there.
-///
-/// A vector has no more lanes than those of the look-ups. The loads of these begin up to three bytes apart from it, and the
+/// The ASCII has to begin three bytes before `from`: then no character is cut there. A vector has no more
+/// lanes than those of the look-ups. The loads of these begin up to three bytes apart from it, and the
 /// compiler would take them out of a longer vector byte by byte.
 #[inline(always)]
 fn skip_ascii(src: &[u8], from: usize) -> usize
@@ -256,8 +248,8 @@ fn skip_ascii(src: &[u8], from: usize) -> usize
     requires prefix { ValidUpTo src.now from }
     ensures { (from ≤ result) × (result ≤ length src.now) × ValidUpTo src.now result }
 {
-    // The first half of each of the next four blocks: most other text shows there. Text from beyond the nearest caches is validated
-    // faster by that than by a test of adjacent bytes alone.
+    // The first half of each of the next four blocks: most other text shows there. Text from beyond the nearest
+    // caches is validated faster by that than by a test of adjacent bytes alone.
     let next = from + TWO_BLOCKS;
     let first = u8x32::from_slice(&src[from..]) | u8x32::from_slice(&src[from + BLOCK..]);
     let second = u8x32::from_slice(&src[next..]) | u8x32::from_slice(&src[next + BLOCK..]);
@@ -276,11 +268,10 @@ fn skip_ascii(src: &[u8], from: usize) -> usize
     skip::<HALF_BLOCK, TWO_BLOCKS, _>(&ascii, at, at + most)
 }
 
-/// Extends a prefix of `from` bytes that may each follow those before it, 64 at a time, and returns its length. The
-/// last 64 may begin before `from`.
+/// The last 64 bytes may begin before `from`.
 #[tactic(auto, using(crate::proofs::Utf8ValidationLemmas::ValidUpTo_less))]
 #[inline(always)]
-fn finish(src: &[u8], from: usize) -> usize
+fn validate_rest(src: &[u8], from: usize) -> usize
     requires { (64 ≤ from) × (from ≤ length src.now) × ValidUpTo src.now from }
     ensures { (result ≤ length src.now) × ValidUpTo src.now result }
 {
@@ -299,14 +290,15 @@ fn finish(src: &[u8], from: usize) -> usize
     last + clean_of_64::<3>(src, last)
 }
 
-/// Extends a prefix of `from` bytes that may each follow those before it, and returns its length. Stops in a long run of
-/// ASCII. Out of line, so that the address of the loop, and so its speed, doesn't depend on the caller.
+/// Stops in a long run of ASCII. Out of line, so that the address of the loop, and so its speed, doesn't
+/// depend on the caller.
 ///
-/// ASCII that begins three bytes before `at` needs no look-ups, since no character is cut there. It is tested for before each four
-/// blocks. After ASCII two blocks follow without a test, since the next byte that isn't ASCII is in them. With fewer than 256 bytes
-/// left it isn't tested for: a test that fails would cost more than it saves there.
+/// ASCII that begins three bytes before `at` needs no look-ups, since no character is cut there. It is tested
+/// for before each four blocks. After ASCII two blocks follow without a test, since the next byte that isn't
+/// ASCII is in them. With fewer than 256 bytes left it isn't tested for: a test that fails would cost more
+/// than it saves there.
 #[inline(never)]
-fn following(src: &[u8], from: usize) -> usize
+fn validate_blocks(src: &[u8], from: usize) -> usize
     requires src_length { 64 ≤ length src.now }
     requires prefix { (from ≤ length src.now) × ValidUpTo src.now from }
     ensures { (result ≤ length src.now) × ValidUpTo src.now result }
@@ -348,10 +340,10 @@ fn following(src: &[u8], from: usize) -> usize
             return at;
         }
     }
-    finish(src, at)
+    validate_rest(src, at)
 }
 
-/// Returns the length of a well-formed prefix of 8 to 64 bytes, by one vector or two that may overlap.
+/// By one vector, or two that may overlap.
 #[inline(always)]
 pub fn well_formed_short(src: &[u8]) -> usize
     requires { (8 ≤ length src.now) × (length src.now ≤ 64) }
@@ -373,17 +365,16 @@ pub fn well_formed_short(src: &[u8]) -> usize
         let block = with_zeros(src).to_array();
         zeros(faults::<0>(&block, 0)).min(src.len())
     };
-    back(src, clean)
+    to_boundary(src, clean)
 }
 
-/// Returns the length of a well-formed prefix of at least 64 bytes, if the first `ascii` are ASCII. A longer prefix may be
-/// well-formed too: this one ends in the first long run of ASCII after a block.
-#[tactic(auto, using(crate::proofs::Utf8ValidationLemmas::IsUtf8_ascii_prefix, crate::proofs::Utf8ValidationLemmas::ValidUpTo_ascii_prefix))]
+/// Ends in the first long run of ASCII after a block, though a longer prefix may be well-formed.
+#[tactic(auto, using(crate::proofs::Utf8ValidationLemmas::ascii_prefixes))]
 #[inline(always)]
 pub fn well_formed_blocks(src: &[u8], ascii: usize) -> usize
     requires src_length { 64 ≤ length src.now }
     requires ascii { (ascii ≤ length src.now) × BelowUpTo ASCII_END src.now ascii }
     ensures { (result ≤ length src.now) × IsUtf8 (take result src.now) }
 {
-    back(src, following(src, ascii))
+    to_boundary(src, validate_blocks(src, ascii))
 }

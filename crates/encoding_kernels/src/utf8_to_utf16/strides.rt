@@ -1,23 +1,22 @@
-//! UTF-16 of strides of sixteen bytes. Each is at an index that doesn't depend on the text, so no stride waits for the end of a
-//! character in the one before it. The code unit that ends with each byte is computed by the three bytes before it: the lower
-//! byte of each in one vector and the upper in another, which are then joined. The lanes that are kept move to the start of the
-//! vector: their indices are looked up by a mask.
-//!
-//! In a text of 19 to 128 bytes the last stride ends with the text and may overlap the one before it. So only the length decides
-//! how often their loop iterates, and no single byte is left. A shorter text is one block, which zeros follow, after a character
-//! or two if it has 17 or 18 bytes. Fewer than eight bytes are converted by characters.
+//! UTF-16 of strides of sixteen bytes. Each is at an index that doesn't depend on the text, so no stride waits for
+//! the end of a character in the one before it. The code unit that ends with each byte is computed by the three bytes
+//! before it, and the lanes that are kept move to the start of the vector. The last stride ends with the text and may
+//! overlap the one before it, so that only the length decides how often the loop iterates.
 
-ghost use Rattle.std.specs.Prelude.{◌≡◌, ◌+◌, ◌-◌, ◌<◌, ◌≤◌, ◌∷◌, length, take, drop, slice_index, ℕ, ◌*◌, ◌/◌, ◌%◌, ◌^◌, false, ◌++◌, replicate, IsTrue, map};
+ghost use Rattle.std.specs.Prelude.{◌≡◌, ◌+◌, ◌-◌, ◌<◌, ◌≤◌, ◌∷◌, length, take, drop, slice_index};
+ghost use Rattle.std.specs.Prelude.{ℕ, ◌*◌, ◌/◌, ◌%◌, ◌^◌, false, ◌++◌, replicate, IsTrue, map};
 ghost use Rattle.std.specs.List.{flat_map};
 ghost use Rattle.std.specs.Char.Escape.{encode_utf16};
 ghost use Rattle.std.specs.Str.{IsUtf8, IsCharBoundary, chars};
 ghost use Rattle.encoding_definitions.specs.Prefixes.{WritesPrefix};
 ghost use Rattle.encoding_kernels.specs.Scans.{BelowUpTo, HasLanes};
-ghost use Rattle.encoding_kernels.specs.EndingUnits.{NoUnitEnds, WritesCompressed, WritesUtf16, units_after, units_in, ends_after, low_bits, unit_at, compressed_places};
+ghost use Rattle.encoding_kernels.specs.EndingUnits.{NoUnitEnds, WritesCompressed, WritesUtf16, units_after};
+ghost use Rattle.encoding_kernels.specs.EndingUnits.{units_in, ends_after, low_bits, unit_at, compressed_places};
 ghost use Rattle.std.specs.Simd.Lanes.{mask_l};
 
 use crate::scalar::{decode_utf8_scalar, sequence_length, write_utf16};
 use crate::simd::copy::join_bytes;
+use crate::simd::lookup::table;
 use crate::simd::width::{HALF_STRIDE, STRIDE};
 use crate::utf8::validate::{bytes_before, with_zeros};
 use std::simd::prelude::*;
@@ -29,9 +28,8 @@ pub(super) const FOUR_BYTES: u8 = 0xF0;
 pub(super) const STRIDE_AND_BEFORE: usize = STRIDE + 3;
 
 /// The indices of the lanes of a vector.
-const LANES: [u16; 8] = [0, 1, 2, 3, 4, 5, 6, 7];
+const LANE_INDICES: [u16; 8] = [0, 1, 2, 3, 4, 5, 6, 7];
 
-/// Returns whether each byte is below the bound.
 #[inline(always)]
 pub(super) fn is_below(block: u8x16, bound: u8) -> bool
     ensures { IsTrue result → (k : ℕ) → k < 16 → slice_index block k < bound }
@@ -39,7 +37,7 @@ pub(super) fn is_below(block: u8x16, bound: u8) -> bool
     block.simd_ge(u8x16::splat(bound)).to_bitmask() == 0
 }
 
-/// Returns the last eight of the ten bits of a high surrogate that each byte ends, without what is added to them.
+/// The last eight of the ten bits of a high surrogate, without what is added to them.
 #[inline(always)]
 fn high_bits(one: u8x16, block: u8x16) -> u8x16
     ensures { (f : ℕ → ℕ) → HasLanes 16 one f
@@ -48,8 +46,7 @@ fn high_bits(one: u8x16, block: u8x16) -> u8x16
     (one << u8x16::splat(2)) + ((block >> u8x16::splat(4)) & u8x16::splat(3))
 }
 
-/// Returns the lower byte of the code unit that ends with each byte, if no character has more than N, given the bytes one and
-/// two before each.
+/// The lower byte of the code unit that ends with each byte.
 #[inline(always)]
 fn lower_bytes<const N: usize>(two: u8x16, one: u8x16, block: u8x16) -> u8x16
     ensures { (x y a : ℕ → ℕ) → HasLanes 16 two y → HasLanes 16 one a
@@ -67,8 +64,7 @@ fn lower_bytes<const N: usize>(two: u8x16, one: u8x16, block: u8x16) -> u8x16
     is_ascii.select(block, longer)
 }
 
-/// Returns the upper byte of the code unit that ends with each byte, if no character has more than N, given the bytes one, two
-/// and three before each.
+/// The upper byte of the code unit that ends with each byte.
 #[inline(always)]
 fn upper_bytes<const N: usize>(three: u8x16, two: u8x16, one: u8x16, block: u8x16) -> u8x16
     ensures { (x y a : ℕ → ℕ) → HasLanes 16 three x → HasLanes 16 two y → HasLanes 16 one a
@@ -93,8 +89,7 @@ fn upper_bytes<const N: usize>(three: u8x16, two: u8x16, one: u8x16, block: u8x1
     is_ascii.select(u8x16::splat(0), longer)
 }
 
-/// Returns the code unit that ends with each of the sixteen bytes from `at` on, if no character has more than N bytes,
-/// given the bytes one, two and three before each: the first eight, and the last eight.
+/// The code unit that ends with each of the sixteen bytes.
 #[inline(always)]
 fn units_of_stride<const N: usize>(
     src: &[u8],
@@ -118,8 +113,7 @@ fn units_of_stride<const N: usize>(
     )
 }
 
-/// Returns a bit for each of the sixteen bytes from `at` on that ends a code unit, except the first `from` and those from `to` on,
-/// given the byte before each.
+/// A bit for each byte that ends a code unit, except the first `from` and those from `to` on.
 #[inline(always)]
 fn ends_of_stride(src: &[u8], at: usize, one: u8x16, from: usize, to: usize) -> usize
     requires within { at + 16 ≤ length src.now }
@@ -136,31 +130,14 @@ fn ends_of_stride(src: &[u8], at: usize, one: u8x16, from: usize, to: usize) -> 
     (mask & ((1 << to) - 1)) >> from << from
 }
 
-/// Builds the table lane by lane, last lane first. Each row of later kept lanes yields two: the row itself, and the
-/// indices of the lane's two bytes followed by it. A row has two words.
-macro_rules! rows {
-    ([] $($row:expr),*) => {
-        [$(
-            ($row & 0xFFFF_FFFF_FFFF_FFFF) as u64,
-            ($row >> 64) as u64
-        ),*]
-    };
-    ([$last:literal $($before:literal)*] $($row:expr),*) => {
-        rows!([$($before)*] $(
-            $row,
-            ($row & 0xFFFF_FFFF_FFFF_FFFF_FFFF_FFFF_FFFF) << 16 | $last
-        ),*)
-    };
-}
-
-/// For each mask of eight lanes, the indices of the two bytes of each lane that is kept, in order. Those of the first lane
-/// follow.
-const COMPRESSED: [u64; 512] = rows!(
+/// For each mask of eight lanes, the indices of the two bytes of each lane that is kept, in order. Those of the first
+/// lane follow.
+const COMPRESSED: [u64; 512] = table!(lanes
     [0x0F0Eu128 0x0D0Cu128 0x0B0Au128 0x0908u128 0x0706u128 0x0504u128 0x0302u128 0x0100u128]
     0x0100_0100_0100_0100_0100_0100_0100_0100u128
 );
 
-/// Returns the kept lanes, in order, followed by copies of the first lane.
+/// Copies of the first lane follow the kept ones.
 #[inline(always)]
 fn compress(lanes: u16x8, mask: usize) -> u16x8
     requires { mask < 256 }
@@ -171,9 +148,8 @@ fn compress(lanes: u16x8, mask: usize) -> u16x8
     u16x8::from_le_bytes(lanes.to_le_bytes().swizzle_dyn(places))
 }
 
-/// Writes the code units that end with the bytes from `from` up to `to` of the sixteen from `at` on, if no character has more
-/// than N bytes, and returns their number. BEFORE is 0 for the first sixteen bytes of the text, and 3 for others. `dst` has at
-/// least ROOM units: sixteen, or none. If sixteen, up to SPARE units after those written may change: eight, or none.
+/// BEFORE is 0 for the first sixteen bytes of the text, and 3 for others. `dst` has at least ROOM units:
+/// sixteen, or none. If sixteen, up to SPARE units after those written may change: eight, or none.
 #[inline(always)]
 pub(super) fn write_stride<
     const N: usize,
@@ -206,7 +182,7 @@ pub(super) fn write_stride<
     if ROOM >= STRIDE || dst.len() >= STRIDE {
         let following = u16x8::from_slice(&dst[count..]);
         first.copy_to_slice(dst);
-        let is_kept = u16x8::from_array(LANES).simd_lt(u16x8::splat(more as u16));
+        let is_kept = u16x8::from_array(LANE_INDICES).simd_lt(u16x8::splat(more as u16));
         is_kept
             .select(last, following)
             .copy_to_slice(&mut dst[count..]);
@@ -220,7 +196,6 @@ pub(super) fn write_stride<
     count + more
 }
 
-/// Returns the end of the last whole character of the first WIDTH bytes, if no character in them has more than N bytes.
 #[inline(always)]
 pub(super) fn whole_end<const WIDTH: usize, const N: usize>(src: &[u8]) -> usize
     requires within { (3 ≤ WIDTH) × (WIDTH ≤ length src.now) × IsUtf8 src.now }
@@ -240,7 +215,6 @@ pub(super) fn whole_end<const WIDTH: usize, const N: usize>(src: &[u8]) -> usize
     WIDTH
 }
 
-/// Writes the UTF-16 of the first character, and returns how many bytes it read and how many code units it wrote.
 #[inline(always)]
 pub(super) fn write_character(src: &[u8], dst: &mut [u16]) -> (usize, usize)
     requires dst_length { (0 < length src.now) × (length src.now ≤ length dst.old) }
@@ -256,8 +230,6 @@ pub(super) fn write_character(src: &[u8], dst: &mut [u16]) -> (usize, usize)
     (length, units)
 }
 
-/// Writes the UTF-16 of a text of at least 19 bytes, if no character has more than N, and returns its length in code units. The
-/// rest of `dst` is unchanged.
 #[inline(never)]
 pub(super) fn write_strides<const N: usize>(src: &[u8], dst: &mut [u16]) -> usize
     requires dst_length { (19 ≤ length src.now) × (length src.now ≤ length dst.old) }
@@ -278,7 +250,7 @@ pub(super) fn write_strides<const N: usize>(src: &[u8], dst: &mut [u16]) -> usiz
     written + write_stride::<N, 3, 0, 0>(src, last, at - last, STRIDE, &mut dst[written..])
 }
 
-/// Writes the UTF-16 of a text of at most 18 bytes, and returns its length in code units. The rest of `dst` is unchanged.
+/// Fewer than eight bytes are converted by characters, and others as one block that zeros follow.
 #[inline(never)]
 pub(super) fn write_tail(src: &[u8], dst: &mut [u16]) -> usize
     requires dst_length { (length src.now ≤ 18) × (length src.now ≤ length dst.old) }
@@ -303,8 +275,7 @@ pub(super) fn write_tail(src: &[u8], dst: &mut [u16]) -> usize
     written + write_stride::<4, 0, 0, 0>(&block, 0, 0, rest, &mut dst[written..])
 }
 
-/// Writes the UTF-16 of the characters in the first sixteen bytes, and returns how many bytes it read and how many code units it
-/// wrote. Units that the rest of the text overwrites may have changed too. Out of line, since few texts need it.
+/// Out of line, since few texts need it.
 #[inline(never)]
 pub(super) fn write_block(src: &[u8], dst: &mut [u16]) -> (usize, usize)
     requires dst_length { (40 ≤ length src.now) × (length src.now ≤ length dst.old) }

@@ -1,6 +1,6 @@
-//! UTF-16 of well-formed UTF-8, by groups of 64 bytes, and by strides of sixteen in a short text and at the end of a longer one.
-//! A code unit is computed for each byte as if it ended there, and those that do are moved together. After the UTF-16 of a
-//! whole text, `dst` is unchanged. The caller converts runs of ASCII.
+//! UTF-16 of well-formed UTF-8, by groups of 64 bytes, and by strides of sixteen in a short text and at the end of a
+//! longer one. A code unit is computed for each byte as if it ended there, and those that do are moved together.
+//! After the UTF-16 of a whole text, `dst` is unchanged. The caller converts runs of ASCII.
 
 ghost use Rattle.std.specs.Prelude.{◌<◌, ◌≤◌, length, ℕ, ◌+◌, ◌*◌, IsTrue, slice_index};
 ghost use Rattle.std.specs.List.{flat_map};
@@ -24,10 +24,10 @@ use std::simd::prelude::*;
 const GROUP_OF_TEXT: usize = BLOCK + 24;
 
 /// The length of eight characters of three bytes.
-const TRIPLES: usize = 24;
+const EIGHT_TRIPLES_LENGTH: usize = 24;
 
-/// Their number, and that of their code units.
-const UNITS: usize = 8;
+/// The number of these characters, and of their code units.
+const EIGHT: usize = 8;
 
 /// The bits that show whether a byte begins three, at every third of the first sixteen bytes.
 const LEAD_BITS: [u8; 16] = [
@@ -49,7 +49,6 @@ const LATER_VALUES: [u8; 16] = [
     0, 0xE0, 0, 0, 0xE0, 0, 0, 0xE0, 0, 0, 0xE0, 0, 0, 0xE0, 0, 0,
 ];
 
-/// Returns whether the text begins with eight characters of three bytes.
 #[inline(always)]
 fn begins_triples(src: &[u8]) -> bool
     requires { 24 ≤ length src.now }
@@ -62,7 +61,6 @@ fn begins_triples(src: &[u8]) -> bool
     !others.any()
 }
 
-/// Returns how many of the first eight characters have three bytes, up to the first that hasn't.
 #[inline(always)]
 fn leading_triples(src: &[u8]) -> usize
     requires { 24 ≤ length src.now }
@@ -84,7 +82,7 @@ fn leading_triples(src: &[u8]) -> usize
     end / 3
 }
 
-/// Writes the UTF-16 of the first `count` characters, of three bytes each. The first eight code units may have changed.
+/// Stores eight code units.
 #[inline(always)]
 fn write_triples(src: &[u8], count: usize, dst: &mut [u16])
     requires dst_length { (24 ≤ length src.now) × (8 ≤ length dst.old) }
@@ -109,8 +107,7 @@ fn write_triples(src: &[u8], count: usize, dst: &mut [u16])
     units.copy_to_slice(dst);
 }
 
-/// Writes the UTF-16 of the whole characters in the first 64 bytes, if none has more than N bytes. Returns how many bytes it read
-/// and how many code units it wrote. Units that the rest of the text overwrites may have changed too.
+/// Takes the whole characters in the first 64 bytes.
 #[inline(always)]
 fn write_group<const N: usize>(src: &[u8], dst: &mut [u16]) -> (usize, usize)
     requires dst_length { (88 ≤ length src.now) × (length src.now ≤ length dst.old) }
@@ -134,8 +131,7 @@ fn write_group<const N: usize>(src: &[u8], dst: &mut [u16]) -> (usize, usize)
     )
 }
 
-/// Writes the UTF-16 of the first character, and if that is ASCII, of the second too. Returns how many bytes it read and how many
-/// code units it wrote. An emoji often follows a mark, and text follows both.
+/// An emoji often follows a mark, and text follows both.
 #[inline(always)]
 fn write_mark_and_character(src: &[u8], dst: &mut [u16]) -> (usize, usize)
     requires dst_length { (1 < length src.now) × (length src.now ≤ length dst.old) }
@@ -151,9 +147,8 @@ fn write_mark_and_character(src: &[u8], dst: &mut [u16]) -> (usize, usize)
     (1 + bytes, 1 + units)
 }
 
-/// Writes the UTF-16 of the first characters of a text as `write_group` does, or of fewer. If characters of three bytes come
-/// first, then one of four, perhaps after ASCII, and the last 32 bytes have no more of four, only those are written. Out of line,
-/// since few texts have characters of four bytes.
+/// If characters of three bytes come first, then one of four, perhaps after ASCII, and the last 32 bytes have
+/// no more of four, only those are written. Out of line, since few texts have characters of four bytes.
 #[inline(never)]
 fn write_with_pairs(src: &[u8], dst: &mut [u16]) -> (usize, usize)
     requires dst_length { (88 ≤ length src.now) × (length src.now ≤ length dst.old) }
@@ -173,12 +168,9 @@ fn write_with_pairs(src: &[u8], dst: &mut [u16]) -> (usize, usize)
     write_group::<4>(src, dst)
 }
 
-/// Writes the UTF-16 of a text by groups of 64 bytes, until 48 bytes of ASCII follow or at most 87 bytes are left. Returns
-/// how many bytes it read and how many code units it wrote. Units that the rest of the text overwrites may have changed too.
-/// Out of line, since it needs many registers.
-///
-/// A turn takes eight characters of three bytes each, or those in the first 64 bytes, or those in the first sixteen if the last
-/// 48 are ASCII.
+/// Stops before 48 bytes of ASCII. A turn takes eight characters of three bytes each, or those in the first
+/// 64 bytes, or those in the first sixteen if the last 48 are ASCII. Out of line, since it needs many
+/// registers.
 #[inline(never)]
 fn convert_groups(src: &[u8], dst: &mut [u16]) -> (usize, usize)
     requires dst_length { (88 ≤ length src.now) × (length src.now ≤ length dst.old) }
@@ -191,9 +183,9 @@ fn convert_groups(src: &[u8], dst: &mut [u16]) -> (usize, usize)
     while src.len() - read >= GROUP_OF_TEXT {
         let text = &src[read..];
         if begins_triples(text) {
-            write_triples(text, UNITS, &mut dst[written..]);
-            read += TRIPLES;
-            written += UNITS;
+            write_triples(text, EIGHT, &mut dst[written..]);
+            read += EIGHT_TRIPLES_LENGTH;
+            written += EIGHT;
             continue;
         }
         let first = u8x16::from_slice(text);
@@ -220,7 +212,6 @@ fn convert_groups(src: &[u8], dst: &mut [u16]) -> (usize, usize)
     (read, written)
 }
 
-/// Writes the UTF-16 of a text of at most 128 bytes, and returns its length in code units. The rest of `dst` is unchanged.
 /// Runs of characters of three bytes come first. Then each code unit is computed, even if it is ASCII.
 pub fn convert_short(src: &[u8], dst: &mut [u16]) -> usize
     requires src_length { length src.now ≤ 128 }
@@ -230,10 +221,13 @@ pub fn convert_short(src: &[u8], dst: &mut [u16]) -> usize
 {
     let mut read = 0;
     let mut written = 0;
-    while src.len() - read >= TRIPLES && src[read] >= 0xE0 && begins_triples(&src[read..]) {
-        write_triples(&src[read..], UNITS, &mut dst[written..]);
-        read += TRIPLES;
-        written += UNITS;
+    while src.len() - read >= EIGHT_TRIPLES_LENGTH
+        && src[read] >= 0xE0
+        && begins_triples(&src[read..])
+    {
+        write_triples(&src[read..], EIGHT, &mut dst[written..]);
+        read += EIGHT_TRIPLES_LENGTH;
+        written += EIGHT;
     }
     if src.len() - read < STRIDE_AND_BEFORE {
         return written + write_tail(&src[read..], &mut dst[written..]);
@@ -245,12 +239,9 @@ pub fn convert_short(src: &[u8], dst: &mut [u16]) -> usize
     written + write_strides::<4>(&src[read..], &mut dst[written..])
 }
 
-/// Writes the UTF-16 of the text before a run of ASCII, and returns how many bytes it read and how many code units it
-/// wrote. Units that the rest of the text overwrites may have changed too.
-///
-/// A first character before sixteen bytes of ASCII is written by itself, since a group would compute code units of ASCII. A text
-/// that is too short for a group is written whole. A block takes a first character of four bytes if ASCII follows the
-/// block, since emoji often end a sentence.
+/// A first character before sixteen bytes of ASCII is written by itself, since a group would compute code
+/// units of ASCII. A block takes a first character of four bytes if ASCII follows the block, since emoji
+/// often end a sentence.
 #[inline(always)]
 pub fn convert_valid_utf8_to_utf16(src: &[u8], dst: &mut [u16]) -> (usize, usize)
     requires dst_length { (0 < length src.now) × (length src.now ≤ length dst.old) }

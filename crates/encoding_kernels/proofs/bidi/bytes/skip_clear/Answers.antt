@@ -36,4 +36,4 @@ returns-clause-no_rtl c =
       | else-loop-at-test w ↦ rw w.at-is c.loop-at.invariant.none
       | then-loop-at-test+then-at-end w ↦ rw w.at-is w.loop-at-2.invariant.none
     ] in
-    none_joined bs c.args.from stop _ before (none_clear bs stop _ c.reach.ensures.pass)
+    none_joined bs c.args.from stop _ before (none_clear bs stop _ c.skip_to_end.ensures.pass)

@@ -30,4 +30,4 @@ returns-clause-no_rtl c =
       | then-loop-at-test+then-at-end w ↦
           rw w.at-is (units_joined us c.args.from at at _ c.loop-at.invariant.none w.skip_clear_unit_blocks-at.ensures.no_rtl (omega arith))
     ] in
-    units_joined us c.args.from stop stop _ before (units_clear us stop _ (λ k. (c.type_inv.units k).fits) c.reach.ensures.pass) (omega arith)
+    units_joined us c.args.from stop stop _ before (units_clear us stop _ (λ k. (c.type_inv.units k).fits) c.skip_to_end.ensures.pass) (omega arith)

@@ -1,4 +1,5 @@
-use Rattle.encoding_kernels.proofs.Utf16ToUtf8Lemmas.{bmp_more, converts_none, converts_more_from, converts_more_bmp_from, converts_prefix, converts_unchanged, writes_none}
+use Rattle.encoding_kernels.proofs.Utf16ToUtf8Lemmas.{bmp_more, converts_none, converts_more_from, converts_more_bmp_from}
+use Rattle.encoding_kernels.proofs.Utf16ToUtf8Lemmas.{converts_prefix, converts_unchanged, writes_none}
 use Rattle.encoding_kernels.proofs.utf16_to_utf8.text.convert_blocks.Goals as goal
 
 pub loop-read-init : goal.loop-read-init
@@ -10,12 +11,12 @@ pub loop-read-preserved : goal.loop-read-preserved
 loop-read-preserved g c =
     let us = g.S.CodeUnits.units c.args.src in
     let units = c.count.ensures.code_units in
-    let dense = c.convert_dense_blocks-dense.ensures.converted in
+    let dense = c.settled-dense.ensures.converted in
     let all = converts_more_from us units c.skip.ensures c.loop-read.invariant.converted dense in
     record {
       converted = converts_more_bmp_from us units c.skip-in-loop-read.ensures all c.convert_first_sixteen-first.ensures.written;
       restored = λ t.
-          let dense = c.convert_dense_blocks-dense.ensures.restored t in
+          let dense = c.settled-dense.ensures.restored t in
           let bmp = bmp_more c.skip.ensures (c.loop-read.invariant.restored t) dense in
           bmp_more c.skip-in-loop-read.ensures bmp c.convert_first_sixteen-first.ensures.written;
     }
@@ -34,7 +35,7 @@ pub returns-then-read-count-clause-prefix : goal.returns-then-read-count-clause-
 returns-then-read-count-clause-prefix g c =
     let us = g.S.CodeUnits.units c.args.src in
     let units = c.count.ensures.code_units in
-    let dense = c.convert_dense_blocks-dense.ensures.converted in
+    let dense = c.settled-dense.ensures.converted in
     let all = converts_more_from us units c.skip.ensures c.loop-read.invariant.converted dense in
     converts_prefix us units all
 
@@ -42,20 +43,20 @@ pub returns-then-read-count-clause-unchanged_after : goal.returns-then-read-coun
 returns-then-read-count-clause-unchanged_after g c =
     let us = g.S.CodeUnits.units c.args.src in
     let units = c.count.ensures.code_units in
-    let dense = c.convert_dense_blocks-dense.ensures.converted in
+    let dense = c.settled-dense.ensures.converted in
     let all = converts_more_from us units c.skip.ensures c.loop-read.invariant.converted dense in
     converts_unchanged us units all
 
 pub returns-then-read-count-clause-restored : goal.returns-then-read-count-clause-restored
 returns-then-read-count-clause-restored g c = λ t.
-    let dense = c.convert_dense_blocks-dense.ensures.restored t in
+    let dense = c.settled-dense.ensures.restored t in
     bmp_more c.skip.ensures (c.loop-read.invariant.restored t) dense
 
 pub returns-then-first-eq0-clause-prefix : goal.returns-then-first-eq0-clause-prefix
 returns-then-first-eq0-clause-prefix g c =
     let us = g.S.CodeUnits.units c.args.src in
     let units = c.count.ensures.code_units in
-    let dense = c.convert_dense_blocks-dense.ensures.converted in
+    let dense = c.settled-dense.ensures.converted in
     let all = converts_more_from us units c.skip.ensures c.loop-read.invariant.converted dense in
     let more = converts_more_bmp_from us units c.skip-in-loop-read.ensures all c.convert_first_sixteen-first.ensures.written in
     converts_prefix us units more
@@ -64,13 +65,13 @@ pub returns-then-first-eq0-clause-unchanged_after : goal.returns-then-first-eq0-
 returns-then-first-eq0-clause-unchanged_after g c =
     let us = g.S.CodeUnits.units c.args.src in
     let units = c.count.ensures.code_units in
-    let dense = c.convert_dense_blocks-dense.ensures.converted in
+    let dense = c.settled-dense.ensures.converted in
     let all = converts_more_from us units c.skip.ensures c.loop-read.invariant.converted dense in
     let more = converts_more_bmp_from us units c.skip-in-loop-read.ensures all c.convert_first_sixteen-first.ensures.written in
     converts_unchanged us units more
 
 pub returns-then-first-eq0-clause-restored : goal.returns-then-first-eq0-clause-restored
 returns-then-first-eq0-clause-restored g c = λ t.
-    let dense = c.convert_dense_blocks-dense.ensures.restored t in
+    let dense = c.settled-dense.ensures.restored t in
     let all = bmp_more c.skip.ensures (c.loop-read.invariant.restored t) dense in
     bmp_more c.skip-in-loop-read.ensures all c.convert_first_sixteen-first.ensures.written

@@ -1,4 +1,5 @@
-use Rattle.std.proofs.Common.{◌≡◌, ◌+◌, ◌*◌, ◌/◌, ◌++◌, ◌∙◌, bit_and, sym, ap, subst, arith, take, drop, length-take-le, length-drop, get_or, get_or-take, get_or-drop, encode_utf8_all, take-append-drop}
+use Rattle.std.proofs.Common.{◌≡◌, ◌+◌, ◌*◌, ◌/◌, ◌++◌, ◌∙◌, bit_and, sym, ap, subst, arith, take, drop, length-take-le}
+use Rattle.std.proofs.Common.{length-drop, get_or, get_or-take, get_or-drop, encode_utf8_all, take-append-drop}
 use Rattle.std.proofs.lemmas.Str.{encodes-append}
 use Rattle.std.specs.Int.RustNames.{count_ones}
 use Rattle.encoding_kernels.specs.KeptBytes.{EncodesTo}

@@ -4,10 +4,12 @@ use Rattle.std.proofs.lemmas.List.{length-append, take_at}
 use Rattle.encoding_kernels.specs.Following.{IsValidAt, ValidUpTo}
 use Rattle.encoding_kernels.proofs.Utf8ValidationLemmas.{IsValidAt-take, ValidUpTo-first, ValidUpTo-none, ValidUpTo_over}
 use Rattle.encoding_kernels.proofs.utf8.validate.well_formed_short.Goals as goal
-use Rattle.encoding_kernels.proofs.utf8.validate.well_formed_short.Goals.{then-src-ge35, else-src-ge35+then-src-ge-STRIDE+then-src, else-src-ge35+then-src-ge-STRIDE+else-src, else-src-ge35+else-src-ge-STRIDE, then-first-lt-STRIDE, else-first-lt-STRIDE}
+use Rattle.encoding_kernels.proofs.utf8.validate.well_formed_short.Goals.{then-src-ge35, else-src-ge35+then-src-ge-STRIDE+then-src}
+use Rattle.encoding_kernels.proofs.utf8.validate.well_formed_short.Goals.{else-src-ge35+then-src-ge-STRIDE+else-src, else-src-ge35+else-src-ge-STRIDE}
+use Rattle.encoding_kernels.proofs.utf8.validate.well_formed_short.Goals.{then-first-lt-STRIDE, else-first-lt-STRIDE}
 
-pub back-requires : goal.back-requires
-back-requires c =
+pub to_boundary-requires : goal.to_boundary-requires
+to_boundary-requires c =
     let src = c.args.src.now in
     elim c.if-src-ge35.branch [
       | then-src-ge35 w ↦

@@ -1,7 +1,8 @@
 use Rattle.std.proofs.Common.{◌<◌, ◌-◌, arith, get_or}
 use Rattle.encoding_kernels.proofs.Utf8ToUtf16Lemmas.{IsCharBoundary-closed}
 use Rattle.encoding_kernels.proofs.Utf8ValidationLemmas.{IsClosedAt_tests}
-use Rattle.encoding_kernels.proofs.utf8_to_utf16.strides.whole_end.Goals.{else-this-ge4-via-then-this-ge4+else-src-ge-FOUR_BYTES, else-this-ge4-via-else-this-ge4}
+use Rattle.encoding_kernels.proofs.utf8_to_utf16.strides.whole_end.Goals.{else-this-ge4-via-then-this-ge4+else-src-ge-FOUR_BYTES}
+use Rattle.encoding_kernels.proofs.utf8_to_utf16.strides.whole_end.Goals.{else-this-ge4-via-else-this-ge4}
 use Rattle.encoding_kernels.proofs.utf8_to_utf16.strides.whole_end.Goals as goal
 
 pub returns-clause-end : goal.returns-clause-end

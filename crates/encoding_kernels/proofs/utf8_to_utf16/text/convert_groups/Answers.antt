@@ -1,4 +1,5 @@
-use Rattle.std.proofs.Common.{◌≡◌, ℕ, ◌+◌, ◌-◌, ◌<◌, ◌≤◌, List, arith, drop, get_or, inl, inr, length, length-drop, length-take, ltb, map, refl, subst, sym, take, w8}
+use Rattle.std.proofs.Common.{◌≡◌, ℕ, ◌+◌, ◌-◌, ◌<◌, ◌≤◌, List, arith, drop, get_or, inl, inr, length}
+use Rattle.std.proofs.Common.{length-drop, length-take, ltb, map, refl, subst, sym, take, w8}
 use Rattle.std.proofs.lemmas.Bool.{cases_lt}
 use Rattle.std.specs.Str.{IsUtf8}
 use Rattle.std.proofs.lemmas.List.{take_rest}

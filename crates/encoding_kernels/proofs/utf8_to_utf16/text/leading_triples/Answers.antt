@@ -1,4 +1,5 @@
-use Rattle.std.proofs.Common.{◌≡◌, ℕ, ◌+◌, ◌-◌, ◌*◌, ◌/◌, ◌<◌, ◌≤◌, ◌⊎◌, ◌∙◌, Bool, List, Fits, ap, arith, bit_and, cond, eqb, false, get_or, inl, inr, length, not, refl, sym, true, w8}
+use Rattle.std.proofs.Common.{◌≡◌, ℕ, ◌+◌, ◌-◌, ◌*◌, ◌/◌, ◌<◌, ◌≤◌, ◌⊎◌, ◌∙◌, Bool, List, Fits, ap, arith}
+use Rattle.std.proofs.Common.{bit_and, cond, eqb, false, get_or, inl, inr, length, not, refl, sym, true, w8}
 use Rattle.std.proofs.lemmas.Bool.{true≢false, cases_Bool, cases_lt, eqb-true}
 use Rattle.encoding_kernels.specs.EndingUnits.{BeginsThree}
 use Rattle.encoding_kernels.specs.declared.utf8_to_utf16.text.TheConstants.{LEAD_BITS, LEAD_VALUES, LATER_BITS, LATER_VALUES}

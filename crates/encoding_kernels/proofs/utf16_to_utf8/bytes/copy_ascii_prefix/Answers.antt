@@ -3,11 +3,11 @@ use denote.Param.{number}
 use Rattle.encoding_kernels.specs.UnitBytes.{bytes_in, units_of}
 use Rattle.encoding_kernels.specs.Scans.{BelowUpTo}
 use Rattle.encoding_definitions.specs.Prefixes.{WritesPrefix}
-use Rattle.encoding_kernels.specs.contracts.utf16_to_utf8.bytes.copy_ascii.{BIG-type}
+use Rattle.encoding_kernels.specs.contracts.utf16_to_utf8.bytes.copy_ascii_prefix.{BIG-type}
 use Rattle.encoding_kernels.proofs.UnitBytesLemmas.{length-units_of}
 use Rattle.encoding_kernels.proofs.UpToSurrogateLemmas.{ascii_first}
 use Rattle.encoding_kernels.proofs.Utf16ToUtf8Lemmas.{writes_none}
-use Rattle.encoding_kernels.proofs.utf16_to_utf8.bytes.copy_ascii.Goals as goal
+use Rattle.encoding_kernels.proofs.utf16_to_utf8.bytes.copy_ascii_prefix.Goals as goal
 
 pub returns-then-count-eq0 : goal.returns-then-count-eq0
 returns-then-count-eq0 g c = writes_none _ c.args.dst.now

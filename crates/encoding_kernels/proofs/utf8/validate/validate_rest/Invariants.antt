@@ -1,6 +1,6 @@
 use Rattle.std.proofs.Common.{◌≤◌, ◌-◌, length}
 use Rattle.encoding_kernels.specs.Following.{ValidUpTo}
-use Rattle.encoding_kernels.proofs.utf8.validate.finish.Given as goal
+use Rattle.encoding_kernels.proofs.utf8.validate.validate_rest.Given as goal
 
 abbrev pub invariant-loop-at : goal.invariant-loop-at
 invariant-loop-at l = record {

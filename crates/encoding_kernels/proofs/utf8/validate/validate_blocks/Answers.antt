@@ -1,8 +1,10 @@
 use Rattle.std.proofs.Common.{◌≡◌, ◌+◌, arith, subst}
 use Rattle.encoding_kernels.specs.Following.{ValidUpTo}
 use Rattle.encoding_kernels.proofs.Utf8ValidationLemmas.{ValidUpTo-none, ValidUpTo_less}
-use Rattle.encoding_kernels.proofs.utf8.validate.following.Goals as goal
-use Rattle.encoding_kernels.proofs.utf8.validate.following.Goals.{then-at-lt-BLOCK+else-at-lt-BLOCK-2, else-at-lt-BLOCK+then-src-at-ge-BLOCK+else-clean-lt-BLOCK, else-at-lt-BLOCK+else-src-at-ge-BLOCK}
+use Rattle.encoding_kernels.proofs.utf8.validate.validate_blocks.Goals as goal
+use Rattle.encoding_kernels.proofs.utf8.validate.validate_blocks.Goals.{then-at-lt-BLOCK+else-at-lt-BLOCK-2}
+use Rattle.encoding_kernels.proofs.utf8.validate.validate_blocks.Goals.{else-at-lt-BLOCK+then-src-at-ge-BLOCK+else-clean-lt-BLOCK}
+use Rattle.encoding_kernels.proofs.utf8.validate.validate_blocks.Goals.{else-at-lt-BLOCK+else-src-at-ge-BLOCK}
 
 pub loop-at-init : goal.loop-at-init
 loop-at-init c =

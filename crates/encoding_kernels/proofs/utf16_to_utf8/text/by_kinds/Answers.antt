@@ -1,5 +1,5 @@
 use Rattle.encoding_kernels.proofs.OverwriteLemmas.{due_more_from}
-use Rattle.encoding_kernels.proofs.utf16_to_utf8.text.convert_any_blocks.Goals as goal
+use Rattle.encoding_kernels.proofs.utf16_to_utf8.text.by_kinds.Goals as goal
 
 pub loop-read-preserved-then-units-eq0 : goal.loop-read-preserved-then-units-eq0
 loop-read-preserved-then-units-eq0 g c = record {

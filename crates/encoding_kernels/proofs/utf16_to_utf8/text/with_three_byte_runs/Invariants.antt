@@ -2,8 +2,8 @@ use Rattle.std.proofs.Common.{◌≡◌, ◌-◌, length}
 use Rattle.std.specs.Prelude.{IsTrue}
 use denote.Param.{number}
 use Rattle.encoding_kernels.specs.Utf8Output.{ConvertsDue}
-use Rattle.encoding_kernels.specs.contracts.utf16_to_utf8.text.convert_due_blocks.{RESTORES-type}
-use Rattle.encoding_kernels.proofs.utf16_to_utf8.text.convert_due_blocks.Given as goal
+use Rattle.encoding_kernels.specs.contracts.utf16_to_utf8.text.with_three_byte_runs.{RESTORES-type}
+use Rattle.encoding_kernels.proofs.utf16_to_utf8.text.with_three_byte_runs.Given as goal
 
 abbrev pub invariant-loop-read : goal.invariant-loop-read
 invariant-loop-read g l = record {
