@@ -207,8 +207,6 @@ impl Utf8Decoder {
     }
 }
 
-/// Decodes `src` after the pending bytes. Returns what ended the call, how many bytes it read and how many code units
-/// it wrote.
 #[tactic(auto, using(std::proofs::lemmas::Bool::both_ways, crate::proofs::PendingLemmas::pending_incomplete))]
 #[inline(always)]
 pub(crate) fn decode<U: CodeUnit>(
@@ -227,7 +225,6 @@ pub(crate) fn decode<U: CodeUnit>(
     }
 }
 
-/// Decodes `src` with nothing pending, and returns what `decode` does.
 #[inline(always)]
 fn decode_neutral<U: CodeUnit>(
     pending: &mut Pending,
@@ -250,7 +247,6 @@ fn decode_neutral<U: CodeUnit>(
     (result, read + more, written)
 }
 
-/// Decodes `src` after an incomplete sequence, and returns what `decode` does.
 #[inline(never)]
 fn decode_pending<U: CodeUnit>(
     pending: &mut Pending,
@@ -284,7 +280,6 @@ fn decode_pending<U: CodeUnit>(
     }
 }
 
-/// Returns the piece for what ended a call without output.
 fn piece_at_end<'a>(end: DecoderResult) -> Piece<'a>
     requires { end ≢ DecoderResult.OutputFull }
     ensures all_read { end ≡ DecoderResult.InputEmpty → result ≡ Piece.InputEmpty }
@@ -298,7 +293,6 @@ fn piece_at_end<'a>(end: DecoderResult) -> Piece<'a>
     }
 }
 
-/// Decodes the start of `src` after the pending bytes. Returns the piece and how many bytes were read.
 #[tactic(auto, using(std::proofs::lemmas::Bool::both_ways, crate::proofs::PendingLemmas::pending_incomplete))]
 #[inline(always)]
 pub(crate) fn decode_borrowed<'a>(
@@ -315,7 +309,6 @@ pub(crate) fn decode_borrowed<'a>(
     }
 }
 
-/// Decodes the start of `src` with nothing pending. Returns the piece and how many bytes were read.
 #[inline(always)]
 fn borrow_prefix<'a>(pending: &mut Pending, src: &'a [u8], last: bool) -> (Piece<'a>, usize)
     requires neutral { pending.old ≡ [] }
@@ -344,7 +337,6 @@ fn borrow_prefix<'a>(pending: &mut Pending, src: &'a [u8], last: bool) -> (Piece
     (piece_at_end(end), read)
 }
 
-/// Decodes the start of `src` after an incomplete sequence. Returns the piece and how many bytes were read.
 #[inline(never)]
 fn resume_borrowed<'a>(pending: &mut Pending, src: &'a [u8], last: bool) -> (Piece<'a>, usize)
     requires unfinished { IsIncomplete pending.old }

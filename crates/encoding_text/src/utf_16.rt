@@ -22,7 +22,6 @@ pub enum ByteOrder {
     BigEndian,
 }
 
-/// Returns the code unit of two bytes.
 #[inline(always)]
 fn decode_unit(order: ByteOrder, bytes: [u8; 2]) -> u16
     ensures { unit_bytes order result ≡ bytes }
@@ -33,7 +32,6 @@ fn decode_unit(order: ByteOrder, bytes: [u8; 2]) -> u16
     }
 }
 
-/// Returns the two bytes of a code unit.
 #[inline(always)]
 fn encode_unit(order: ByteOrder, unit: u16) -> [u8; 2]
     ensures { result ≡ unit_bytes order unit }

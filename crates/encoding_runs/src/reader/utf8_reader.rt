@@ -1,4 +1,5 @@
-//! A reader of text: the bytes of another reader, as well-formed UTF-8.
+//! A reader of text: the bytes of another reader, as well-formed UTF-8. It decodes straight into the destination,
+//! unless a character may not fit.
 ghost use Rattle.std.specs.Prelude.{◌≡◌, ◌≢◌, ◌↔◌, ◌<◌, ◌≤◌, [], length, take, true, false, IfOk, OnOk, OnErr, IsTrue, option_map};
 ghost use Rattle.std.specs.Io.{ReadsAtMost};
 ghost use Rattle.std.specs.Io.KnownBytes.{Keeps, ReadConsumes, IsAtEnd};
@@ -23,7 +24,6 @@ const BLOCK_LENGTH: usize = 7;
 /// The UTF-8 of U+FFFD, which replaces a malformed sequence.
 const REPLACEMENT_UTF8: [u8; 3] = [0xEF, 0xBF, 0xBD];
 
-/// Keeps the text of a piece: U+FFFD for a malformed sequence.
 fn hold_piece(held: &mut Buffer<u8, 4>, piece: Piece<'_>)
     requires { length (text_of piece) ≤ 4 }
     ensures { held.new ≡ text_of piece.entry }
@@ -66,7 +66,7 @@ impl<R: Read> Utf8Reader<R> {
         }
     }
 
-    /// Reads if all that was read is decoded, and returns whether that reached the end.
+    /// Reads only if all that was read is decoded.
     fn fill(&mut self) -> io::Result<bool>
         ensures text { Keeps (text_left R.remaining self.old) (text_left R.remaining self.new) }
         ensures same { (self.new.decoder ≡ self.old.decoder) × (self.new.held ≡ self.old.held) }
@@ -79,7 +79,6 @@ impl<R: Read> Utf8Reader<R> {
         Ok(self.block.unread().is_empty())
     }
 
-    /// Decodes into `dst` until there is some text, in whole characters, or the end.
     fn decode(&mut self, dst: &mut [u8]) -> io::Result<usize>
         requires dst_length { 7 ≤ length dst.old }
         requires held { self.old.held ≡ [] }
@@ -100,7 +99,6 @@ impl<R: Read> Utf8Reader<R> {
         }
     }
 
-    /// Decodes the next byte, or what is pending at the end. The result, a character or nothing, is kept.
     fn decode_byte(&mut self, last: bool)
         requires held { self.old.held ≡ [] }
         requires ended { IsTrue last ↔ (self.old.block ≡ []) }
@@ -120,7 +118,6 @@ impl<R: Read> Utf8Reader<R> {
         self.block.consume(read);
     }
 
-    /// Decodes one character, which is kept, or reaches the end.
     fn hold(&mut self) -> io::Result<()>
         requires held { self.old.held ≡ [] }
         ensures text { Keeps (text_left R.remaining self.old) (text_left R.remaining self.new) }
@@ -137,7 +134,6 @@ impl<R: Read> Utf8Reader<R> {
         }
     }
 
-    /// Decodes one character into `dst`, and returns its length: 0 at the end.
     pub(super) fn character(&mut self, dst: &mut [u8]) -> io::Result<usize>
         requires dst_length { 4 ≤ length dst.old }
         requires held { self.old.held ≡ [] }

@@ -1,4 +1,4 @@
-//! Runs of a decoder. The rest of each destination is unchanged.
+//! Runs of a decoder: one call for each turn. The rest of each destination is unchanged.
 ghost use Rattle.std.specs.Prelude.{ℕ, ◌+◌, ◌-◌, ◌<◌, ◌≤◌, List, length, take, encode_utf8};
 ghost use Rattle.std.specs.Char.{IsScalar};
 ghost use Rattle.std.specs.Char.Escape.{encode_utf16};
@@ -41,7 +41,6 @@ trait CodeUnit: Copy {
     // the most code units of a character
     ghost need: { ℕ };
 
-    /// Decodes into these code units.
     fn decode(
         decoder: &mut Utf8Decoder,
         src: &[u8],
@@ -85,8 +84,6 @@ impl CodeUnit for u8 {
     }
 }
 
-/// Makes the call of a turn on the unread bytes, into the rest of a destination. Returns its result, the number of
-/// bytes read and the number of code units written.
 fn make_call<U: CodeUnit>(
     decoder: &mut Utf8Decoder,
     turn: &Turn,
@@ -108,7 +105,6 @@ fn make_call<U: CodeUnit>(
     )
 }
 
-/// Writes the report of a call's result, if it is one, at index 0, and returns the number of reports written.
 fn write_report(answer: &DecoderResult, place: usize, reports: &mut [Report]) -> usize
     requires reports { 0 < length reports.old }
     ensures { WritesPrefix reports.old reports.new result (report_of answer.now place) }
@@ -122,8 +118,6 @@ fn write_report(answer: &DecoderResult, place: usize, reports: &mut [Report]) ->
     }
 }
 
-/// Makes one call for each turn, and returns the totals. A character has at least one code unit, and no more code units
-/// than bytes of UTF-8.
 fn run<U: CodeUnit>(
     decoder: &mut Utf8Decoder,
     src: &[u8],

@@ -1,4 +1,5 @@
-//! Whole bytes with U+FFFD for each malformed sequence, into a destination of any length.
+//! Whole bytes with U+FFFD for each malformed sequence, into a destination of any length. The decoder reports a
+//! malformed sequence only into space for any character. Here U+FFFD alone has to fit.
 ghost use Rattle.std.specs.Prelude.{◌≡◌, ℕ, List, ◌≤◌, true, [], length, take, drop, IfSome, IfNone};
 ghost use Rattle.encoding_definitions.specs.Parts.{BeginsWithNoCharacter};
 ghost use Rattle.encoding_definitions.specs.Prefixes.{WritesPrefix};
@@ -17,12 +18,10 @@ const REPLACEMENT_CHARACTER: u32 = 0xFFFD;
 
 /// Code units that text with U+FFFD for each malformed sequence is written in.
 pub(crate) trait Replacing: CodeUnit {
-    /// Returns the length of U+FFFD.
     fn replacement_length() -> usize
         ensures length { result ≡ length (Self.encode 0xFFFD) }
         ensures at_most { result ≤ Self.MAX_UNITS };
 
-    /// Writes U+FFFD to the start of `dst`, and returns its length.
     fn write_replacement(dst: &mut [Self]) -> usize
         requires dst_length { length (Self.encode 0xFFFD) ≤ length dst.old }
         ensures { WritesPrefix dst.old dst.new result (Self.encode 0xFFFD) };
@@ -53,8 +52,6 @@ impl Replacing for u8 {
     }
 }
 
-/// Returns the length of the malformed sequence at the start of the bytes, which are all that is left. `None` if there
-/// are none, or they start with a character.
 #[tactic(auto, using(crate::proofs::CallLemmas::not_ascii, crate::proofs::ReplacingLemmas::begins_character, crate::proofs::FirstLemmas::all_malformed))]
 #[inline(always)]
 pub(crate) fn malformed_length(bytes: &[u8]) -> Option<usize>
@@ -80,8 +77,6 @@ pub(crate) fn malformed_length(bytes: &[u8]) -> Option<usize>
     }
 }
 
-/// Converts the first parts of `src`, characters and malformed sequences, as many as fit into `dst`. Returns how many
-/// bytes it read, how many code units it wrote, and for how many malformed sequences it wrote U+FFFD.
 #[inline(always)]
 pub(crate) fn convert_parts<U: Replacing>(src: &[u8], dst: &mut [U]) -> (usize, usize, usize)
     ensures { ConvertsParts U.encode src.now dst.old dst.new result.0 result.1 result.2 }

@@ -32,7 +32,6 @@ pub enum Latin1Bidi {
     Bidi = 2,
 }
 
-/// Returns whether the scalar value is right-to-left.
 #[tactic(auto, using(encoding_definitions::proofs::BidiTextLemmas::right_to_left_from))]
 fn is_right_to_left(scalar: u32) -> bool
     ensures { IsTrue result ↔ IsRightToLeft scalar }
@@ -56,7 +55,7 @@ pub fn is_char_bidi(c: char) -> bool
     is_right_to_left(u32::from(c))
 }
 
-/// Returns whether the UTF-16 code unit is the high surrogate of right-to-left characters.
+/// Returns whether it is the high surrogate of right-to-left characters.
 fn is_high_half(u: u16) -> bool
     ensures { IsTrue result ↔ (IsInRange 0xD802 0xD803 u ⊎ IsInRange 0xD83A 0xD83B u) }
 {
@@ -81,7 +80,6 @@ pub fn is_utf16_code_unit_bidi(u: u16) -> bool
     is_right_to_left(unit)
 }
 
-/// Returns whether right-to-left characters may start with the byte.
 fn may_start_rtl(lead: u8) -> bool
     ensures { IsFalse result → (third : ℕ) → rtl_second_end lead (rtl_mark_lead third) ≡ 0 }
 {
@@ -91,7 +89,6 @@ fn may_start_rtl(lead: u8) -> bool
     }
 }
 
-/// Returns whether a right-to-left character starts at the index.
 fn stands_at(bytes: &[u8], at: usize) -> bool
     requires { at < length bytes.now }
     ensures { IsTrue result ↔ RtlAt bytes.now at }
@@ -105,7 +102,6 @@ fn stands_at(bytes: &[u8], at: usize) -> bool
     is_right_to_left(decode_utf8_scalar(&bytes[at..at + length]))
 }
 
-/// Returns whether a right-to-left character starts at one of the indices.
 fn stands_between(bytes: &[u8], from: usize, to: usize) -> bool
     requires { (from ≤ to) × (to ≤ length bytes.now) }
     ensures found { IsTrue result → (k : ℕ) × (k < length bytes.now) × RtlAt bytes.now k }
@@ -119,7 +115,6 @@ fn stands_between(bytes: &[u8], from: usize, to: usize) -> bool
     false
 }
 
-/// Returns whether a character of the well-formed text is right-to-left.
 fn is_text_bidi(bytes: &[u8]) -> bool
     requires { IsUtf8 bytes.now }
     ensures { IsTrue result ↔ IsBidiText bytes.now }
@@ -172,8 +167,7 @@ pub fn is_utf8_bidi(buffer: &[u8]) -> bool
     }
 }
 
-/// Skips code units below the first right-to-left one, as `skip_units_below` does. Of fewer than eight, other scripts' text seldom
-/// begins with one, and then no vector is tested.
+/// Tests fewer than eight units only if the first is low: text of other scripts seldom begins with one.
 #[inline(always)]
 fn skip_low_units(units: &[u16]) -> usize
     ensures within { result ≤ length units.now }
@@ -185,8 +179,7 @@ fn skip_low_units(units: &[u16]) -> usize
     skip_units_below(units, FIRST_UNIT)
 }
 
-/// Skips code units from `from` on as `skip_clear_units` does, but none of fewer than eight: for these no vector is tested there, and
-/// the call would cost more than their tests.
+/// `skip_clear_units`, except that it skips nothing in fewer than eight units: testing these one by one is cheaper.
 #[inline(always)]
 fn skip_by_vectors(units: &[u16], from: usize) -> usize
     requires { from ≤ length units.now }

@@ -15,8 +15,6 @@ use encoding_kernels::utf16::validate::{
 /// What replaces an unpaired surrogate.
 const REPLACEMENT_UNIT: u16 = 0xFFFD;
 
-/// Returns how many more blocks are tested for pairs at once, after a block with surrogates for which `expected` of them
-/// were left.
 #[inline(always)]
 fn blocks_before_retest(expected: usize) -> usize
     ensures first { expected ≡ 0 → result ≡ 8 }
@@ -73,8 +71,6 @@ pub fn utf16_valid_up_to(buffer: &[u16]) -> usize
     at
 }
 
-/// Returns the index of the first unpaired surrogate among the code units from index `from` on, or the length of
-/// `units`.
 fn next_unpaired(units: &[u16], from: usize) -> usize
     requires { from ≤ length units.now }
     ensures following { from ≤ result }

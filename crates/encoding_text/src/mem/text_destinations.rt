@@ -98,8 +98,6 @@ pub fn clear_continuation_bytes(bytes: &mut [u8])
     }
 }
 
-/// Sets the first `zeros` bytes to zero, or all if there are fewer, and then the continuation bytes directly after
-/// those.
 fn clear(bytes: &mut [u8], zeros: usize)
     ensures { bytes.new ≡ cleared_prefix zeros bytes.old }
 {

@@ -56,8 +56,6 @@ impl Utf8Encoder {
     }
 }
 
-/// Returns the number of unpaired surrogates in the pending one, if there is one, followed by `units`, without the last
-/// `kept` of these.
 fn unpaired_with_pending(pending: Option<u16>, units: &[u16], kept: usize) -> usize
     requires surrogate { IsPendingSurrogate (pending_units pending) }
     requires within { kept ≤ length (pending_units pending ++ units.now) }
