@@ -85,11 +85,11 @@ pub(crate) fn why_malformed(first: u8, rest: &[u8]) -> Malformation
     }
 }
 
-/// Returns the first malformed sequence of `src`, as [`next_malformed`] does, and why it is malformed. Returns `None` if
-/// and only if `src` is well-formed.
+/// Returns the first malformed sequence of `src`, as [`next_malformed`] does, and why it is malformed. Returns `None`
+/// if and only if `src` is well-formed.
 ///
-/// The kind is that of the sequence and the byte after it in `src`, or of the end of `src`. Allocates no memory. Unicode
-/// Standard, Table 3-7.
+/// The kind is that of the sequence and the byte after it in `src`, or of the end of `src`. Allocates no memory.
+/// Unicode Standard, Table 3-7.
 pub fn next_malformation(src: &[u8]) -> Option<(MalformedSequence, Malformation)>
     ensures if_some { IfSome result
         (λ found. IsNextMalformed src.now found.0.place found.0.length) }

@@ -28,9 +28,9 @@ pub enum DecoderResult {
     /// The remaining space might be too small for the next character. Call again with the unread rest of the source and
     /// a larger or emptied destination.
     OutputFull,
-    /// A malformed sequence ends where this call stopped reading, and nothing is pending. The first number is the length
-    /// of the sequence, one to three bytes, some of which an earlier call may have read. The second is the number of
-    /// bytes read after the sequence, which is always 0.
+    /// A malformed sequence ends where this call stopped reading, and nothing is pending. The first number is the
+    /// length of the sequence, one to three bytes, some of which an earlier call may have read. The second is the
+    /// number of bytes read after the sequence, which is always 0.
     Malformed(u8, u8),
 }
 
@@ -61,7 +61,9 @@ impl Model for Utf8Decoder {
 }
 
 impl Utf8Decoder {
-    ghost use Rattle.encoding_text.specs.Decoding.{DecodeStepInto, BorrowedDecodeStep, IsReport, Suffices, SufficesReplacing, max_utf16_length, max_utf8_length, max_utf8_length_with_replacement};
+    ghost use Rattle.encoding_text.specs.Decoding.{DecodeStepInto, BorrowedDecodeStep, IsReport};
+    ghost use Rattle.encoding_text.specs.Decoding.{Suffices, SufficesReplacing, max_utf16_length};
+    ghost use Rattle.encoding_text.specs.Decoding.{max_utf8_length, max_utf8_length_with_replacement};
 
     /// Returns a decoder with nothing pending.
     pub fn new_inner() -> Utf8Decoder
@@ -112,8 +114,8 @@ impl Utf8Decoder {
     }
 
     /// Returns the length in bytes of a destination that is large enough for the next `byte_length` bytes, however they
-    /// are split into calls, if U+FFFD is written for each malformed sequence: three times the sum of `byte_length`, the
-    /// number of pending bytes and one. `None` if the length exceeds `usize::MAX`.
+    /// are split into calls, if U+FFFD is written for each malformed sequence: three times the sum of `byte_length`,
+    /// the number of pending bytes and one. `None` if the length exceeds `usize::MAX`.
     pub fn max_utf8_buffer_length(&self, byte_length: usize) -> Option<usize>
         ensures { SomeIff result
             (max_utf8_length_with_replacement byte_length (length self.now) ≤ usize.MAX)
@@ -173,10 +175,10 @@ impl Utf8Decoder {
         ensures progress { 0 < length src.now → 4 ≤ length dst.old
             → (0 < result.1) ⊎ IsReport result.0 }
 
-        // If `src` has at most `byte_length` bytes and `dst` has the length that `max_utf8_buffer_length(byte_length)` or
-        // `max_utf8_buffer_length_without_replacement(byte_length)` returned, the call doesn't return `OutputFull`. The
-        // space left is enough for the rest of the `byte_length` bytes. If `max_utf8_buffer_length` returned the length,
-        // the space left is enough even after the caller writes U+FFFD.
+        // If `src` has at most `byte_length` bytes and `dst` has the length that `max_utf8_buffer_length(byte_length)`
+        // or `max_utf8_buffer_length_without_replacement(byte_length)` returned, the call doesn't return `OutputFull`.
+        // The space left is enough for the rest of the `byte_length` bytes. If `max_utf8_buffer_length` returned the
+        // length, the space left is enough even after the caller writes U+FFFD.
         ensures suffices { Suffices max_utf8_length self.old src.now
             (length dst.old) result.0 result.1 result.2 self.new }
         ensures suffices_between_reports { Suffices max_utf8_length_with_replacement self.old
@@ -193,10 +195,10 @@ impl Utf8Decoder {
     /// that no bytes follow `src`.
     ///
     /// If nothing is pending and `src` starts with a character, the piece is the longest well-formed prefix, borrowed
-    /// from `src`. Otherwise, the pending bytes and `src` are read as one input, and the piece is the first character or
-    /// malformed sequence in it. If the input ends inside its first character, the result depends on `last`. If `last` is
-    /// set, the piece is `Malformed`. Otherwise, the bytes become pending and the piece is `InputEmpty`. If the input is
-    /// empty, the piece is `InputEmpty` too.
+    /// from `src`. Otherwise, the pending bytes and `src` are read as one input, and the piece is the first character
+    /// or malformed sequence in it. If the input ends inside its first character, the result depends on `last`. If
+    /// `last` is set, the piece is `Malformed`. Otherwise, the bytes become pending and the piece is `InputEmpty`. If
+    /// the input is empty, the piece is `InputEmpty` too.
     ///
     /// Call again with the unread rest of `src` until all is read. Nothing is allocated.
     #[inline(always)]

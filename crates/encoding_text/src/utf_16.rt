@@ -1,7 +1,8 @@
-//! UTF-16BE and UTF-16LE: Unicode Standard, section 3.10, and Encoding Standard, sections 14.2 to 14.4. Each code unit is
-//! two bytes. A call leaves the rest of `dst` unchanged.
+//! UTF-16BE and UTF-16LE: Unicode Standard, section 3.10, and Encoding Standard, sections 14.2 to 14.4. Each code unit
+//! is two bytes. A call leaves the rest of `dst` unchanged.
 
-ghost use Rattle.std.specs.Prelude.{◌≡◌, ℕ, ◌+◌, ◌*◌, ◌/◌, ◌++◌, ◌<◌, ◌≤◌, true, List, length, min, take, drop, encode_utf8};
+ghost use Rattle.std.specs.Prelude.{◌≡◌, ℕ, ◌+◌, ◌*◌, ◌/◌, ◌++◌, ◌<◌, ◌≤◌, true};
+ghost use Rattle.std.specs.Prelude.{List, length, min, take, drop, encode_utf8};
 ghost use Rattle.std.specs.Char.{IsScalar};
 ghost use Rattle.std.specs.Char.Escape.{encode_utf16};
 ghost use Rattle.std.specs.List.{flat_map};
@@ -75,9 +76,10 @@ pub fn copy_utf16_bytes_to_ascii(order: ByteOrder, src: &[u8], dst: &mut [u8]) -
     }
 }
 
-/// Converts the first characters of UTF-16LE or UTF-16BE to UTF-8, up to the first that doesn't fit into `dst`, an unpaired surrogate,
-/// or a character that the end of `src` cuts: a high surrogate or half a code unit. Returns how many bytes it read and how many
-/// bytes it wrote. The rest of `dst` is unchanged. Encoding Standard, section 14.2, shared UTF-16 decoder.
+/// Converts the first characters of UTF-16LE or UTF-16BE to UTF-8, up to the first that doesn't fit into `dst`, an
+/// unpaired surrogate, or a character that the end of `src` cuts: a high surrogate or half a code unit. Returns how
+/// many bytes it read and how many bytes it wrote. The rest of `dst` is unchanged. Encoding Standard, section 14.2,
+/// shared UTF-16 decoder.
 pub fn convert_utf16_bytes_to_utf8_up_to_invalid(
     order: ByteOrder,
     src: &[u8],

@@ -1,6 +1,7 @@
 //! A reader of text: the bytes of another reader, as well-formed UTF-8. It decodes straight into the destination,
 //! unless a character may not fit.
-ghost use Rattle.std.specs.Prelude.{◌≡◌, ◌≢◌, ◌↔◌, ◌<◌, ◌≤◌, [], length, take, true, false, IfOk, OnOk, OnErr, IsTrue, option_map};
+ghost use Rattle.std.specs.Prelude.{◌≡◌, ◌≢◌, ◌↔◌, ◌<◌, ◌≤◌, [], length, take, true};
+ghost use Rattle.std.specs.Prelude.{false, IfOk, OnOk, OnErr, IsTrue, option_map};
 ghost use Rattle.std.specs.Io.{ReadsAtMost};
 ghost use Rattle.std.specs.Io.KnownBytes.{Keeps, ReadConsumes, IsAtEnd};
 ghost use Rattle.std.specs.Str.{IsUtf8};

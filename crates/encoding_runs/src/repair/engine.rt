@@ -1,6 +1,7 @@
 //! The engine: writes text unchanged, and U+FFFD for each malformed sequence. A round reads once, and writes all final
 //! parts before the next read. At the end it writes what is pending.
-ghost use Rattle.std.specs.Prelude.{◌≡◌, ◌≢◌, ℕ, ◌<◌, ◌≤◌, ◌↔◌, Bool, true, false, List, [], ◌++◌, length, take, IfOk, IfErr, IsTrue};
+ghost use Rattle.std.specs.Prelude.{◌≡◌, ◌≢◌, ℕ, ◌<◌, ◌≤◌, ◌↔◌, Bool, true, false};
+ghost use Rattle.std.specs.Prelude.{List, [], ◌++◌, length, take, IfOk, IfErr, IsTrue};
 ghost use Rattle.std.specs.Io.KnownBytes.{Appends, Keeps};
 ghost use Rattle.encoding_definitions.specs.Sequence.{IsPending};
 ghost use Rattle.encoding_runs.specs.Repairs.{RepairsAll, RepairsProperPrefix, RepairsFinal, Stops, WritesRepaired};

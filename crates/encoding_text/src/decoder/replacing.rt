@@ -52,7 +52,7 @@ impl Replacing for u8 {
     }
 }
 
-#[tactic(auto, using(crate::proofs::CallLemmas::not_ascii, crate::proofs::ReplacingLemmas::begins_character, crate::proofs::FirstLemmas::all_malformed))]
+#[tactic(auto, using(crate::proofs::ReplacingLemmas::malformed_at_end))]
 #[inline(always)]
 pub(crate) fn malformed_length(bytes: &[u8]) -> Option<usize>
     ensures if_some { IfSome result (λ n. (n ≤ length bytes.now)

@@ -4,7 +4,8 @@ ghost use Rattle.std.specs.Prelude.{◌≡◌, ◌<◌, ◌≤◌, ◌↔◌, �
 ghost use Rattle.std.specs.Str.{IsUtf8};
 ghost use Rattle.std.specs.Int.{IsInRange};
 ghost use Rattle.encoding_definitions.specs.Latin1.{IsLatin1, IsUtf8Latin1};
-ghost use Rattle.encoding_definitions.specs.Bidi.{IsRightToLeft, IsRightToLeftUnit, IsBidiUnits, IsBidiText, IsBidiBytes};
+ghost use Rattle.encoding_definitions.specs.Bidi.{IsRightToLeft, IsRightToLeftUnit};
+ghost use Rattle.encoding_definitions.specs.Bidi.{IsBidiUnits, IsBidiText, IsBidiBytes};
 ghost use Rattle.encoding_text.specs.Classes.{Classifies};
 ghost use Rattle.encoding_kernels.specs.RightToLeft.{rtl_second_end, rtl_mark_lead, RtlAt, NoRtlIn, NoneRightToLeft};
 ghost use Rattle.encoding_kernels.specs.Scans.{BelowUpTo};
@@ -66,7 +67,7 @@ fn is_high_half(u: u16) -> bool
 }
 
 /// Returns whether the UTF-16 code unit is a right-to-left character, or the high surrogate of one.
-#[tactic(auto, using(encoding_definitions::proofs::BidiUnitsLemmas::unit_form, encoding_definitions::proofs::BidiUnitsLemmas::unit_scalar, encoding_definitions::proofs::BidiUnitsLemmas::unit_high, encoding_definitions::proofs::BidiUnitsLemmas::unit_low_none))]
+#[tactic(auto, using(crate::proofs::DefinitionRules::bidi_units))]
 pub fn is_utf16_code_unit_bidi(u: u16) -> bool
     ensures { IsTrue result ↔ IsRightToLeftUnit u }
 {

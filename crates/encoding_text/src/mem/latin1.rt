@@ -2,7 +2,8 @@
 //! character: Infra Standard, isomorphic decode and encode. What follows the first ASCII is out of line, so that ASCII
 //! needs few registers. A conversion leaves the rest of `dst` unchanged.
 
-ghost use Rattle.std.specs.Prelude.{◌≡◌, ◌+◌, ◌-◌, ◌*◌, ◌%◌, ◌<◌, ◌≤◌, ℕ, List, [], ◌∷◌, take, length, map, slice_index, encode_utf8, encode_utf8_all, IfSome, IfNone};
+ghost use Rattle.std.specs.Prelude.{◌≡◌, ◌+◌, ◌-◌, ◌*◌, ◌%◌, ◌<◌, ◌≤◌, ℕ, List, [], ◌∷◌, take, length};
+ghost use Rattle.std.specs.Prelude.{map, slice_index, encode_utf8, encode_utf8_all, IfSome, IfNone};
 ghost use Rattle.std.specs.Str.{IsAscii};
 ghost use Rattle.encoding_definitions.specs.Prefixes.{IsLongestFittingPrefix, WritesPrefix};
 

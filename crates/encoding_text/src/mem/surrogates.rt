@@ -81,7 +81,7 @@ fn next_unpaired(units: &[u16], from: usize) -> usize
 }
 
 /// Replaces each unpaired surrogate with U+FFFD. All other code units are unchanged.
-#[tactic(auto, using(encoding_definitions::proofs::SurrogateLemmas::repair_starts, encoding_definitions::proofs::SurrogateLemmas::repair_goes_on, encoding_definitions::proofs::SurrogateLemmas::repair_ends))]
+#[tactic(auto, using(crate::proofs::DefinitionRules::surrogate_repair))]
 pub fn ensure_utf16_validity(buffer: &mut [u16])
     ensures { AreRepairedUnits buffer.old buffer.new }
 {

@@ -86,7 +86,7 @@ pub fn convert_latin1_to_str(src: &[u8], dst: &mut [u8]) -> usize
 /// Sets the continuation bytes at the start of `bytes` to zero: after a write into a text, what is left of a character
 /// whose first bytes were overwritten. The rest is unchanged. It reads no byte after the first that is no continuation
 /// byte.
-#[tactic(auto, using(std::proofs::lemmas::List::Edits::fill_more, encoding_definitions::proofs::ClearingLemmas::byte_after, encoding_definitions::proofs::ClearingLemmas::clear_next))]
+#[tactic(auto, using(crate::proofs::DefinitionRules::clearing))]
 #[inline(never)]
 pub fn clear_continuation_bytes(bytes: &mut [u8])
     ensures { bytes.new ≡ clear_continuation bytes.old }

@@ -1,5 +1,5 @@
-//! What bytes begin with: ASCII, a character of several bytes, a malformed sequence, or an incomplete one. Unicode Standard,
-//! Table 3-7, and Encoding Standard, section 8.1.1.
+//! What bytes begin with: ASCII, a character of several bytes, a malformed sequence, or an incomplete one. Unicode
+//! Standard, Table 3-7, and Encoding Standard, section 8.1.1.
 ghost use Rattle.std.specs.Prelude.{◌<◌, ◌≤◌, length, take, slice_index, IfSome, IfNone};
 ghost use Rattle.encoding_definitions.specs.Sequence.{IsSequence, IsIncomplete};
 ghost use Rattle.encoding_definitions.specs.Parts.{BeginsWithNoCharacter};
@@ -81,7 +81,7 @@ impl First {
     }
 }
 
-#[tactic(auto, using(std::proofs::lemmas::Bool::both_ways, encoding_definitions::proofs::SequenceLemmas::no_character_reads))]
+#[tactic(auto, using(crate::proofs::DefinitionRules::characters))]
 #[inline(always)]
 pub(crate) fn character_length(bytes: &[u8]) -> Option<usize>
     ensures length { IfSome result (λ n. (0 < n) × (n ≤ length bytes.now) × IsSequence

@@ -1,10 +1,12 @@
 //! UTF-16 to UTF-8, into a destination of any length. What follows the first ASCII is out of line, so that ASCII needs
 //! few registers. A conversion leaves the rest of `dst` unchanged.
-ghost use Rattle.std.specs.Prelude.{◌≡◌, ◌+◌, ◌<◌, ◌≤◌, ◌⊎◌, ◌-◌, ◌↔◌, length, take, slice_index, IsTrue, ◌*◌, IsUtf8, encode_utf8_all};
+ghost use Rattle.std.specs.Prelude.{◌≡◌, ◌+◌, ◌<◌, ◌≤◌, ◌⊎◌, ◌-◌, ◌↔◌, length, take};
+ghost use Rattle.std.specs.Prelude.{slice_index, IsTrue, ◌*◌, IsUtf8, encode_utf8_all};
 ghost use Rattle.std.specs.Char.Utf16.{utf16_lossy_chars};
 ghost use Rattle.std.specs.Str.{IsAscii};
 ghost use Rattle.encoding_definitions.specs.Prefixes.{WritesPrefix};
-ghost use Rattle.encoding_definitions.specs.Utf16.{IsHighSurrogate, IsLowSurrogate, IsUtf8OfPrefix, IsUtf8OfLongestPrefix, IsUtf8OfUnits};
+ghost use Rattle.encoding_definitions.specs.Utf16.{IsHighSurrogate, IsLowSurrogate, IsUtf8OfPrefix};
+ghost use Rattle.encoding_definitions.specs.Utf16.{IsUtf8OfLongestPrefix, IsUtf8OfUnits};
 
 use crate::ascii;
 use crate::ascii::prefixes::{pack_blocks, write_short_ascii_as_bytes};

@@ -12,8 +12,8 @@ use encoding_kernels::utf16::unpaired::unpaired_of_units;
 impl Utf8Encoder {
     /// `encode_from_utf16_raw`, which also returns how many unpaired surrogates were replaced with U+FFFD.
     ///
-    /// A surrogate that became pending in an earlier call counts in the call that replaces it. So the sum over all calls
-    /// is the number of unpaired surrogates in the whole source.
+    /// A surrogate that became pending in an earlier call counts in the call that replaces it. So the sum over all
+    /// calls is the number of unpaired surrogates in the whole source.
     pub fn encode_from_utf16_with_count(
         &mut self,
         src: &[u16],

@@ -7,7 +7,8 @@ use Rattle.encoding_text.proofs.EncoderLemmas.{none_there}
 use Rattle.encoding_definitions.proofs.PrefixesLemmas.{WritesPrefix-length}
 use Rattle.encoding_text.proofs.RepairingLemmas.{repaired_more}
 use Rattle.encoding_runs.proofs.BlockRepairLemmas.{block_rejected, block_finished, block_full, block_fits, block_replaced}
-use Rattle.encoding_runs.proofs.repair.blocks.repair_block.Goals.{then-not-last, else-not-last, else-is_empty-via-then-is_empty+else-left-lt-REPLACEMENT_LENGTH, else-is_empty-via-else-is_empty}
+use Rattle.encoding_runs.proofs.repair.blocks.repair_block.Goals.{then-not-last, else-not-last, else-is_empty-via-then-is_empty+else-left-lt-REPLACEMENT_LENGTH}
+use Rattle.encoding_runs.proofs.repair.blocks.repair_block.Goals.{else-is_empty-via-else-is_empty}
 use Rattle.encoding_runs.proofs.repair.blocks.repair_block.Goals as goal
 
 pub returns-then-left-lt-REPLACEMENT_LENGTH : goal.returns-then-left-lt-REPLACEMENT_LENGTH
