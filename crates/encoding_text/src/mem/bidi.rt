@@ -81,7 +81,7 @@ pub fn is_utf16_code_unit_bidi(u: u16) -> bool
     is_right_to_left(unit)
 }
 
-fn may_start_rtl(lead: u8) -> bool
+fn may_start_right_to_left(lead: u8) -> bool
     ensures { IsFalse result → (third : ℕ) → rtl_second_end lead (rtl_mark_lead third) ≡ 0 }
 {
     match lead {
@@ -90,11 +90,11 @@ fn may_start_rtl(lead: u8) -> bool
     }
 }
 
-fn stands_at(bytes: &[u8], at: usize) -> bool
+fn is_right_to_left_at(bytes: &[u8], at: usize) -> bool
     requires { at < length bytes.now }
     ensures { IsTrue result ↔ RtlAt bytes.now at }
 {
-    if !may_start_rtl(bytes[at]) {
+    if !may_start_right_to_left(bytes[at]) {
         return false;
     }
     let Some(length) = character_length(&bytes[at..]) else {
@@ -103,20 +103,20 @@ fn stands_at(bytes: &[u8], at: usize) -> bool
     is_right_to_left(decode_utf8_scalar(&bytes[at..at + length]))
 }
 
-fn stands_between(bytes: &[u8], from: usize, to: usize) -> bool
+fn has_right_to_left_between(bytes: &[u8], from: usize, to: usize) -> bool
     requires { (from ≤ to) × (to ≤ length bytes.now) }
     ensures found { IsTrue result → (k : ℕ) × (k < length bytes.now) × RtlAt bytes.now k }
-    ensures no_rtl { IsFalse result → NoRtlIn bytes.now from to }
+    ensures no_right_to_left { IsFalse result → NoRtlIn bytes.now from to }
 {
     for at in from..to {
-        if stands_at(bytes, at) {
+        if is_right_to_left_at(bytes, at) {
             return true;
         }
     }
     false
 }
 
-fn is_text_bidi(bytes: &[u8]) -> bool
+fn has_right_to_left(bytes: &[u8]) -> bool
     requires { IsUtf8 bytes.now }
     ensures { IsTrue result ↔ IsBidiText bytes.now }
 {
@@ -124,7 +124,7 @@ fn is_text_bidi(bytes: &[u8]) -> bool
     while at < bytes.len() {
         let from = skip_clear(bytes, at);
         at = from + STRIDE.min(bytes.len() - from);
-        if stands_between(bytes, from, at) {
+        if has_right_to_left_between(bytes, from, at) {
             return true;
         }
     }
@@ -135,7 +135,7 @@ fn is_text_bidi(bytes: &[u8]) -> bool
 pub fn is_str_bidi(buffer: &str) -> bool
     ensures { IsTrue result ↔ IsBidiText buffer.now }
 {
-    is_text_bidi(buffer.as_bytes())
+    has_right_to_left(buffer.as_bytes())
 }
 
 /// Returns whether the bytes are not well-formed UTF-8, or one of their characters is right-to-left.
@@ -151,7 +151,7 @@ pub fn is_utf8_bidi(buffer: &[u8]) -> bool
         }
         rest = &rest[prefix..];
         let valid = utf8_valid_up_to(&rest[..VALIDATED_PIECE.min(rest.len())]);
-        if is_text_bidi(&rest[..valid]) {
+        if has_right_to_left(&rest[..valid]) {
             return true;
         }
         rest = &rest[valid..];
@@ -185,7 +185,7 @@ fn skip_low_units(units: &[u16]) -> usize
 fn skip_by_vectors(units: &[u16], from: usize) -> usize
     requires { from ≤ length units.now }
     ensures within { (from ≤ result) × (result ≤ length units.now) }
-    ensures no_rtl { NoneRightToLeft units.now from result }
+    ensures no_right_to_left { NoneRightToLeft units.now from result }
 {
     if units.len() < UNIT_STRIDE {
         return from;
