@@ -61,7 +61,7 @@ impl<T: Copy, const N: usize> Buffer<T, N> {
 
     pub(super) fn give(&mut self, dst: &mut [T]) -> usize
         ensures copied_length { result ≡ min (length dst.old) (length self.old) }
-        ensures dst_length { length dst.new ≡ length dst.old }
+        ensures same_length { length dst.new ≡ length dst.old }
         ensures bytes { self.old ≡ take result dst.new ++ self.new }
     {
         let unread = self.unread();
@@ -75,7 +75,7 @@ impl<T: Copy, const N: usize> Buffer<T, N> {
 impl<const N: usize> Buffer<u8, N> {
     pub(super) fn fill<R: Read>(&mut self, reader: &mut R) -> io::Result<()>
         requires empty { self.old ≡ [] }
-        requires dst_length { 0 < N }
+        requires capacity { 0 < N }
         ensures bytes { Consumes (R.remaining reader.old) (R.remaining reader.new) self.new }
         ensures end { OnOk result (self.new ≡ [] → IsAtEnd (R.remaining reader.new)) }
     {

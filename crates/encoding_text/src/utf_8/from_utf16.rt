@@ -110,7 +110,7 @@ fn convert_prefix_and_blocks(src: &[u16], dst: &mut [u8]) -> (usize, usize, bool
 
 /// Fewer than eight units are no block, so all of them are converted one at a time.
 #[inline(always)]
-fn scalar_budget(left: usize, others: usize) -> usize
+fn characters_before_retry(left: usize, others: usize) -> usize
     ensures { 0 < others → 0 < result }
 {
     if left < HALF_STRIDE {
@@ -133,7 +133,7 @@ fn convert_after_ascii(src: &[u16], dst: &mut [u8], ascii: usize) -> (usize, usi
 {
     let mut read = ascii;
     let mut written = ascii;
-    let mut singles = scalar_budget(src.len() - read, 0);
+    let mut singles = characters_before_retry(src.len() - read, 0);
     let end = dst.len().saturating_sub(LONGEST - 1);
     while read < src.len() && written < end {
         if singles == 0 {
@@ -144,7 +144,7 @@ fn convert_after_ascii(src: &[u16], dst: &mut [u8], ascii: usize) -> (usize, usi
             read += units;
             written += bytes;
             if !goes_on {
-                singles = scalar_budget(src.len() - read, 1);
+                singles = characters_before_retry(src.len() - read, 1);
             }
         } else {
             let scalar = scalar_at(Units { src }, read);
