@@ -12,6 +12,7 @@ ghost use Rattle.encoding_runs.specs.Steps.{text_of};
 use crate::laws::{law_parts, law_sequences};
 use crate::reader::buffer::Buffer;
 use crate::repair::repair_block;
+use encoding_kernels::scalar::REPLACEMENT_UTF8;
 use encoding_text::decoder::{Piece, Utf8Decoder};
 use std::io;
 use std::io::Read;
@@ -21,9 +22,6 @@ const BLOCK: usize = 1024;
 
 /// With this many bytes to write into, a call of `repair_block` makes progress.
 const BLOCK_LENGTH: usize = 7;
-
-/// The UTF-8 of U+FFFD, which replaces a malformed sequence.
-const REPLACEMENT_UTF8: [u8; 3] = [0xEF, 0xBF, 0xBD];
 
 fn hold_piece(held: &mut Buffer<u8, 4>, piece: Piece<'_>)
     requires { length (text_of piece) ≤ 4 }

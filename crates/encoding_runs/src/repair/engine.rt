@@ -8,6 +8,7 @@ ghost use Rattle.encoding_runs.specs.Repairs.{RepairsAll, RepairsProperPrefix, R
 ghost use Rattle.encoding_runs.specs.Steps.{ReadsRound, StopsInParts, WritesParts, malformed_in, text_of};
 
 use super::streams::{Sink, Source};
+use encoding_kernels::scalar::REPLACEMENT_UTF8;
 use encoding_text::decoder::{Piece, Utf8Decoder};
 
 /// Why a repair stopped.
@@ -30,9 +31,6 @@ pub struct Repaired {
 
 /// The most bytes of one read.
 const ROUND: usize = 1024;
-
-/// U+FFFD in UTF-8.
-const REPLACEMENT_UTF8: [u8; 3] = [0xEF, 0xBF, 0xBD];
 
 /// Out of line: most writers take all bytes at once.
 #[inline(never)]

@@ -10,21 +10,18 @@ use super::pending::Pending;
 use super::{DecoderResult, decode};
 use crate::utf_8::CodeUnit;
 use crate::utf_8::first::First;
-use encoding_kernels::scalar::write_scalar;
+use encoding_kernels::scalar::{REPLACEMENT_CHARACTER, REPLACEMENT_UNIT, write_scalar};
 use encoding_kernels::simd::width::ASCII_END;
-
-/// The scalar value that replaces a malformed sequence.
-const REPLACEMENT_CHARACTER: u32 = 0xFFFD;
 
 /// Code units that text with U+FFFD for each malformed sequence is written in.
 pub(crate) trait Replacing: CodeUnit {
     fn replacement_length() -> usize
-        ensures length { result ≡ length (Self.encode 0xFFFD) }
+        ensures length { result ≡ length (Self.encode REPLACEMENT_CHARACTER) }
         ensures at_most { result ≤ Self.MAX_UNITS };
 
     fn write_replacement(dst: &mut [Self]) -> usize
-        requires dst_length { length (Self.encode 0xFFFD) ≤ length dst.old }
-        ensures { WritesPrefix dst.old dst.new result (Self.encode 0xFFFD) };
+        requires dst_length { length (Self.encode REPLACEMENT_CHARACTER) ≤ length dst.old }
+        ensures { WritesPrefix dst.old dst.new result (Self.encode REPLACEMENT_CHARACTER) };
 }
 
 impl Replacing for u16 {
@@ -35,7 +32,7 @@ impl Replacing for u16 {
 
     #[inline]
     fn write_replacement(dst: &mut [u16]) -> usize {
-        dst[0] = 0xFFFD;
+        dst[0] = REPLACEMENT_UNIT;
         1
     }
 }

@@ -5,15 +5,14 @@ ghost use Rattle.encoding_definitions.specs.Prefixes.{IsLongestPrefix};
 ghost use Rattle.encoding_definitions.specs.Surrogates.{IsValidUtf16, AreRepairedUnits};
 ghost use Rattle.encoding_definitions.specs.Utf16.{AreCodeUnits};
 
-use encoding_kernels::scalar::{is_high_surrogate, is_low_surrogate, is_surrogate};
+use encoding_kernels::scalar::{
+    REPLACEMENT_UNIT, is_high_surrogate, is_low_surrogate, is_surrogate,
+};
 use encoding_kernels::simd::width::{FOUR, HALF_UNIT_BLOCK, STRIDE, UNIT_BLOCK};
 use encoding_kernels::tuning::PAIRED_BLOCKS_BEFORE_RETEST;
 use encoding_kernels::utf16::validate::{
     are_paired, before_cut_pair, has_no_surrogate, is_after_high_surrogate, paired_run,
 };
-
-/// What replaces an unpaired surrogate.
-const REPLACEMENT_UNIT: u16 = 0xFFFD;
 
 #[inline(always)]
 fn blocks_before_retest(expected: usize) -> usize

@@ -15,6 +15,7 @@ use crate::ascii::prefixes::{unpack_ascii_prefix, unpack_blocks, write_short_asc
 use crate::decoder::replacing::malformed_length;
 use crate::utf_8::{convert_beyond_ascii, convert_text, convert_utf8_to_utf16_up_to_invalid};
 use encoding_kernels::lengths::{BLOCK_OF_TEXT, SHORT};
+use encoding_kernels::scalar::REPLACEMENT_UNIT;
 use encoding_kernels::simd::width::ASCII_END;
 use encoding_kernels::utf8_to_utf16::text::convert_short;
 
@@ -29,7 +30,7 @@ fn convert_malformed(src: &[u8], dst: &mut [u16]) -> usize
     let mut written = 0;
     while let Some(length) = malformed_length(&src[read..]) {
         read += length;
-        dst[written] = 0xFFFD;
+        dst[written] = REPLACEMENT_UNIT;
         written += 1;
         let (bytes, units) = convert_utf8_to_utf16_up_to_invalid(&src[read..], &mut dst[written..]);
         read += bytes;
