@@ -9,7 +9,7 @@ ghost use Rattle.encoding_text.specs.Decoding.{DecodeStepInto, BorrowedDecodeSte
 
 use crate::ascii::prefixes::is_short;
 use crate::utf_8::first::First;
-use crate::utf_8::{CodeUnit, valid_beyond_ascii};
+use crate::utf_8::{FromUtf8, valid_beyond_ascii};
 use encoding_kernels::lengths::SHORT;
 use encoding_kernels::scalar::decode_utf8_scalar;
 use encoding_kernels::simd::width::ASCII_END;
@@ -211,7 +211,7 @@ impl Utf8Decoder {
 
 #[tactic(auto, using(std::proofs::lemmas::Bool::both_ways, crate::proofs::PendingLemmas::pending_incomplete))]
 #[inline(always)]
-pub(crate) fn decode<U: CodeUnit>(
+pub(crate) fn decode<U: FromUtf8>(
     pending: &mut Pending,
     src: &[u8],
     dst: &mut [U],
@@ -228,7 +228,7 @@ pub(crate) fn decode<U: CodeUnit>(
 }
 
 #[inline(always)]
-fn decode_neutral<U: CodeUnit>(
+fn decode_neutral<U: FromUtf8>(
     pending: &mut Pending,
     src: &[u8],
     dst: &mut [U],
@@ -250,7 +250,7 @@ fn decode_neutral<U: CodeUnit>(
 }
 
 #[inline(never)]
-fn decode_pending<U: CodeUnit>(
+fn decode_pending<U: FromUtf8>(
     pending: &mut Pending,
     src: &[u8],
     dst: &mut [U],

@@ -8,13 +8,13 @@ ghost use Rattle.encoding_text.specs.Replacing.{ConvertsParts};
 
 use super::pending::Pending;
 use super::{DecoderResult, decode};
-use crate::utf_8::CodeUnit;
+use crate::utf_8::FromUtf8;
 use crate::utf_8::first::First;
 use encoding_kernels::scalar::{REPLACEMENT_CHARACTER, REPLACEMENT_UNIT, write_scalar};
 use encoding_kernels::simd::width::ASCII_END;
 
 /// Code units that text with U+FFFD for each malformed sequence is written in.
-pub(crate) trait Replacing: CodeUnit {
+pub(crate) trait Replacing: FromUtf8 {
     fn replacement_length() -> usize
         ensures length { result ≡ length (Self.encode REPLACEMENT_CHARACTER) }
         ensures at_most { result ≤ Self.MAX_UNITS };

@@ -1,6 +1,6 @@
 //! From UTF-8 to UTF-16, and its twin from UTF-8 to UTF-8. What follows the first ASCII is out of line, so that ASCII
 //! needs few registers. A conversion leaves the rest of `dst` unchanged.
-ghost use Rattle.std.specs.Prelude.{◌≡◌, ℕ, ◌+◌, ◌<◌, ◌≤◌, List, length, encode_utf8};
+ghost use Rattle.std.specs.Prelude.{◌≡◌, ℕ, ◌+◌, ◌<◌, ◌≤◌, length};
 ghost use Rattle.std.proofs.Common.{arith, rules};
 ghost use Rattle.std.proofs.lemmas.Grind.{common_steps};
 ghost use Rattle.std.proofs.lemmas.Str.{length-encode, len_utf8_bounds};
@@ -19,6 +19,7 @@ use crate::ascii::prefixes::{
     copy_prefix_of_text, copy_to_basic_latin, is_short, unpack_blocks, unpack_rest,
     write_short_ascii_as_units,
 };
+use crate::code_unit::CodeUnit;
 use encoding_kernels::lengths::{LEAST_FOR_VECTORS, SHORT};
 use encoding_kernels::scalar::{decode_utf8_scalar, write_utf16};
 use encoding_kernels::simd::copy::copy_prefix;
@@ -27,29 +28,15 @@ use encoding_kernels::simd::width::{ASCII_END, FOUR_BLOCKS, HALF_BLOCK};
 use encoding_kernels::tuning::{CONVERTED_PIECE, CONVERTED_RUN};
 use encoding_kernels::utf8_to_utf16::text::{convert_short, convert_valid_utf8_to_utf16};
 
-/// What text is converted to: bytes of UTF-8, or code units of UTF-16.
-pub(crate) trait CodeUnit: Copy {
-    // a scalar value in these code units
-    ghost encode: { ℕ → List Self };
-
-    ghost MAX_UNITS: { ℕ };
-
-    /// The most code units that a character takes: the space that a call needs to make progress.
-    const MAX_UNITS: usize;
-
+/// Code units that UTF-8 is converted to.
+pub(crate) trait FromUtf8: CodeUnit {
     fn convert_up_to_invalid(src: &[u8], dst: &mut [Self]) -> (usize, usize)
-        ensures { ConvertsUntilFull encode src.now dst.old dst.new result.0 result.1 };
+        ensures { ConvertsUntilFull Self.encode src.now dst.old dst.new result.0 result.1 };
 
-    ghost holds_any: { (c : ℕ) → IsScalar c → length (encode c) ≤ MAX_UNITS };
+    ghost holds_any: { (c : ℕ) → IsScalar c → length (Self.encode c) ≤ Self.MAX_UNITS };
 }
 
-impl CodeUnit for u16 {
-    ghost encode = { encode_utf16 };
-
-    ghost MAX_UNITS = { 2 };
-
-    const MAX_UNITS: usize = 2;
-
+impl FromUtf8 for u16 {
     ghost holds_any = { Prim.search (rules, common_steps) };
 
     #[tactic(auto, using(crate::proofs::ConvertingLemmas::converts_prefix))]
@@ -59,13 +46,7 @@ impl CodeUnit for u16 {
     }
 }
 
-impl CodeUnit for u8 {
-    ghost encode = { encode_utf8 };
-
-    ghost MAX_UNITS = { 4 };
-
-    const MAX_UNITS: usize = 4;
-
+impl FromUtf8 for u8 {
     ghost holds_any = { λ c _. Prim.omega (arith, length-encode c, len_utf8_bounds c) };
 
     /// The characters that fit are those of the prefix that is as long as `dst`.

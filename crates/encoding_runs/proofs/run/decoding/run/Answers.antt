@@ -29,8 +29,8 @@ loop-turn-preserved g c =
     let call = c.make_call-answer.ensures.call in
     let before = c.loop-turn.invariant in
     let inside : at < length turns = omega arith in
-    let run = reported_push g.U.CodeUnit.encode g.U.CodeUnit.need _ _ _ _ _ _ _ _ _ turn _ _ _ _ _ _ _ _ before.run call.1 call.2 c.write_report.ensures in
-    let within = call_within g.U.CodeUnit.encode g.U.CodeUnit.need _ (take turn.take unread) _ _ _ _ _ _ call.2.answer in
+    let run = reported_push g.U.CodeUnit.encode g.U.CodeUnit.MAX_UNITS _ _ _ _ _ _ _ _ _ turn _ _ _ _ _ _ _ _ before.run call.1 call.2 c.write_report.ensures in
+    let within = call_within g.U.CodeUnit.encode g.U.CodeUnit.MAX_UNITS _ (take turn.take unread) _ _ _ _ _ _ call.2.answer in
     record {
       run = rw (take_more turns at none inside) run;
       read = omega (arith, within, before.read, length-take {A = ℕ}, length-drop {A = ℕ});
