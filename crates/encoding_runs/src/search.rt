@@ -184,7 +184,7 @@ pub fn search_block(
         ≡ search.old.1 + length search.old.0 + result.read }
 {
     // Without a call of the search no other clause says that the pending bytes are none or an incomplete sequence.
-    let _neutral = search.in_neutral_state();
+    prove!(search.decoder.pending().1 <= 3);
     let mut block = SearchedBlock {
         read: 0,
         found: 0,

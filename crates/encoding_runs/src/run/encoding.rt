@@ -62,7 +62,8 @@ pub fn run_from_utf16(
         (length dst.old) result.result }
 {
     // Without turns no other contract says that at most one surrogate is pending.
-    let _room = encoder.max_buffer_length_from_utf16_without_replacement(0);
+    let room = encoder.max_buffer_length_from_utf16_without_replacement(0);
+    prove!(room.is_some());
     let mut outcome = EncodeOutcome {
         read: 0,
         written: 0,

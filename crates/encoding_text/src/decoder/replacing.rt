@@ -1,5 +1,5 @@
-//! Whole bytes with U+FFFD for each malformed sequence, into a destination of any length. The decoder reports a
-//! malformed sequence only into space for any character. Here U+FFFD alone has to fit.
+//! Whole bytes with U+FFFD for each malformed sequence, into a destination of any length. Only U+FFFD has to fit, though
+//! the decoder reports a malformed sequence only into space for any character.
 ghost use Rattle.std.specs.Prelude.{◌≡◌, ℕ, List, ◌≤◌, true, [], length, take, drop, IfSome, IfNone};
 ghost use Rattle.encoding_definitions.specs.Parts.{BeginsWithNoCharacter};
 ghost use Rattle.encoding_definitions.specs.Prefixes.{WritesPrefix};
@@ -99,7 +99,6 @@ pub(crate) fn convert_parts<U: Replacing>(src: &[u8], dst: &mut [U]) -> (usize, 
                 replaced += 1;
             }
             DecoderResult::OutputFull => {
-                // The decoder reports a malformed sequence only into space for any character.
                 let Some(length) = malformed_length(&src[read..]) else {
                     return (read, written, replaced);
                 };
