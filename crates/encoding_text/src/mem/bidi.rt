@@ -1,4 +1,5 @@
-//! Checks of text for right-to-left characters and for Latin1.
+//! Checks of text for right-to-left characters and for Latin1. A kernel skips blocks that certainly have no right-to-
+//! left character, and what follows them is tested one by one.
 
 ghost use Rattle.std.specs.Prelude.{◌≡◌, ◌<◌, ◌≤◌, ◌↔◌, ◌⊎◌, ℕ, length, IsTrue, IsFalse};
 ghost use Rattle.std.specs.Str.{IsUtf8};

@@ -1,4 +1,5 @@
-//! Conversions from and to Latin1 that borrow their input if it is ASCII.
+//! Conversions from and to Latin1 that borrow their input if it is ASCII. Otherwise they allocate once, for the longest
+//! result.
 
 ghost use Rattle.std.specs.Prelude.{◌≡◌, ◌+◌, ◌-◌, ◌*◌, ◌≤◌, length, take, encode_utf8_all, IfOk};
 ghost use Rattle.std.specs.Str.{IsAscii, chars};

@@ -1,4 +1,5 @@
-//! Checks of text for ASCII and Latin1, and the lengths of such prefixes.
+//! Checks of text for ASCII and Latin1, and the lengths of such prefixes. Text that fails often does so at its start,
+//! which is tested before any block.
 
 ghost use Rattle.std.specs.Prelude.{◌<◌, ◌≤◌, ◌↔◌, length, take, IsTrue};
 ghost use Rattle.std.specs.Str.{IsAscii};

@@ -1,4 +1,5 @@
-//! Conversions into the start of a text, which is well-formed before the call and after it.
+//! Conversions into the start of a text, which is well-formed before the call and after it. What an overwritten
+//! character leaves after the output becomes zero.
 
 ghost use Rattle.std.specs.Prelude.{◌≡◌, ◌*◌, ◌≤◌, [], ◌∷◌, length, take, encode_utf8, encode_utf8_all};
 ghost use Rattle.std.specs.Str.{IsUtf8};

@@ -1,4 +1,5 @@
-//! The encoder's calls with the number of unpaired surrogates that they replaced.
+//! The encoder's calls with the number of unpaired surrogates that they replaced. A second pass over what was read
+//! counts them.
 ghost use Rattle.std.specs.Prelude.{◌≡◌, ◌+◌, ◌-◌, ◌*◌, ◌≤◌, ◌++◌, length, take};
 ghost use Rattle.encoding_definitions.specs.Prefixes.{WritesPrefix};
 ghost use Rattle.encoding_definitions.specs.Surrogates.{HasUnpaired};
