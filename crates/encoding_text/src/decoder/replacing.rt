@@ -1,5 +1,5 @@
-//! Whole bytes with U+FFFD for each malformed sequence, into a destination of any length. Only U+FFFD has to fit, though
-//! the decoder reports a malformed sequence only into space for any character.
+//! Whole bytes with U+FFFD for each malformed sequence, into a destination of any length. Only U+FFFD has to fit,
+//! though the decoder reports a malformed sequence only into space for any character.
 ghost use Rattle.std.specs.Prelude.{◌≡◌, ℕ, List, ◌≤◌, true, [], length, take, drop, IfSome, IfNone};
 ghost use Rattle.encoding_definitions.specs.Parts.{BeginsWithNoCharacter};
 ghost use Rattle.encoding_definitions.specs.Prefixes.{WritesPrefix};
