@@ -3,7 +3,8 @@ use Rattle.std.proofs.Common.{◌≡◌, ℕ, ◌≤◌, inl, inr, Bool, true, f
 use Rattle.std.specs.Prelude.{Any}
 use Rattle.std.specs.List.{flat_map}
 use Rattle.std.proofs.lemmas.Bool.{or_parts}
-use Rattle.std.proofs.lemmas.List.{append_assoc, append_cancel_right, length-append, length-drop, length-take, take-append-drop, take_all, drop-append-le, nil_from_length}
+use Rattle.std.proofs.lemmas.List.{append_assoc, append_cancel_right, length-append, length-drop}
+use Rattle.std.proofs.lemmas.List.{length-take, take-append-drop, take_all, drop-append-le, nil_from_length}
 use Rattle.encoding_definitions.specs.Sequence.{IsPending}
 use Rattle.encoding_definitions.specs.Parts.{Part, bytes_of, StartsWith, Yields}
 use Rattle.encoding_text.specs.Decoding.{DecodeStep}

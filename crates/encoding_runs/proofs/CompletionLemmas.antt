@@ -1,6 +1,7 @@
 -- With enough turns that each make progress, and enough space, a run reaches the end of its source. One call with
 -- nothing pending reads all of a text that fits into its space.
-use Rattle.std.proofs.Common.{◌≡◌, ℕ, ◌+◌, ◌-◌, ◌*◌, ◌<◌, ◌≤◌, ◌⊎◌, inl, inr, Bool, true, ◌&&◌, List, [], ◌∷◌, length, map, take, drop, encode_utf8, encode_utf8_all, Option, Some, refl, sym, ap, arith, subst, ◌++◌, ◌∙◌}
+use Rattle.std.proofs.Common.{◌≡◌, ℕ, ◌+◌, ◌-◌, ◌*◌, ◌<◌, ◌≤◌, ◌⊎◌, inl, inr, Bool, true, ◌&&◌, List, [], ◌∷◌, length, map}
+use Rattle.std.proofs.Common.{take, drop, encode_utf8, encode_utf8_all, Option, Some, refl, sym, ap, arith, subst, ◌++◌, ◌∙◌}
 use lib.Utf8.{scalar}
 use Rattle.std.specs.Char.{IsScalar}
 use Rattle.std.specs.Str.{all_scalars, chars, IsUtf8}
@@ -29,7 +30,8 @@ use Rattle.encoding_text.specs.declared.decoder.Piece.{Piece}
 use Rattle.encoding_text.specs.declared.decoder.Piece.TheVariants.{Text, Char, Malformed, InputEmpty}
 use Rattle.encoding_text.proofs.BorrowedLemmas.{borrowed_yields}
 use Rattle.encoding_text.proofs.OneResultLemmas.{no_characters_pending, one_result}
-use Rattle.encoding_runs.specs.MixedCalls.{Form, ToUtf16, ToUtf8, Borrowed, CallResult, Decoded, Handed, MixedDecodeStep, TextFits, HasQueriedLength, IsWholePiece, ReadsText}
+use Rattle.encoding_runs.specs.MixedCalls.{Form, ToUtf16, ToUtf8, Borrowed, CallResult, Decoded, Handed}
+use Rattle.encoding_runs.specs.MixedCalls.{MixedDecodeStep, TextFits, HasQueriedLength, IsWholePiece, ReadsText}
 use Rattle.encoding_runs.proofs.MalformedLemmas.{well_formed}
 
 -- a turn makes progress

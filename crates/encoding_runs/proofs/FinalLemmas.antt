@@ -5,7 +5,8 @@ use Rattle.std.proofs.lemmas.List.{append-nil, append_assoc, length-append}
 use Rattle.encoding_definitions.specs.Sequence.{IsIncomplete, IsPending}
 use Rattle.encoding_definitions.specs.Parts.{Part, IllFormed, BeginsWithNoCharacter, StartsWith, AreFinal, bytes_of, ArePartsOf, lossy_utf8, malformed_count}
 use Rattle.encoding_definitions.proofs.PartsLemmas.{part_bytes, prefixes_nest}
-use Rattle.encoding_definitions.proofs.DecompositionLemmas.{StartsWith-append, final_stay, has_final, StartsWith-bytes, same_parts, final_prefix, lossy_utf8-append, malformed_count-append}
+use Rattle.encoding_definitions.proofs.DecompositionLemmas.{StartsWith-append, final_stay, has_final, StartsWith-bytes}
+use Rattle.encoding_definitions.proofs.DecompositionLemmas.{same_parts, final_prefix, lossy_utf8-append, malformed_count-append}
 use Rattle.encoding_runs.specs.Steps.{AreFirst}
 use Rattle.std.specs.List.{flat_map}
 use Rattle.std.specs.Str.Lossy.{second_byte_min}

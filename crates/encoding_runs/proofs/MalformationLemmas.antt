@@ -1,10 +1,12 @@
 -- The kind of a malformed sequence, by its first byte and the next byte. Each malformed sequence has exactly one kind.
-use Rattle.std.proofs.Common.{◌≡◌, ℕ, ◌+◌, ◌≤◌, ◌<◌, inl, inr, ◌⊎◌, Bool, true, false, List, [], ◌∷◌, ◌++◌, ◌||◌, if◌then◌else◌, nat_lt, nat_eq, length, take, drop, slice_index, refl, sym, ap, ◌∙◌, arith, subst}
+use Rattle.std.proofs.Common.{◌≡◌, ℕ, ◌+◌, ◌≤◌, ◌<◌, inl, inr, ◌⊎◌, Bool, true, false, List, [], ◌∷◌, ◌++◌, ◌||◌}
+use Rattle.std.proofs.Common.{if◌then◌else◌, nat_lt, nat_eq, length, take, drop, slice_index, refl, sym, ap, ◌∙◌, arith, subst}
 use Rattle.std.proofs.lemmas.Bool.{cases_eq, cases_lt}
 use Rattle.std.proofs.lemmas.List.{length-take, length-drop, drop_more, get_or-take, get_or-drop}
 use Rattle.std.proofs.lemmas.Bool.Decides.{nat_tests}
 use Rattle.encoding_definitions.specs.Sequence.{IsSequence, IsIncomplete, IsNeverLeading, IsContinuation, IsSecond}
-use Rattle.encoding_definitions.proofs.SequenceLemmas.{decide_incomplete, IsIncomplete-prefix, HasOpenShape-IsIncomplete, IsSequence-HasShape, begins_by_range, second_goes_on, third_goes_on, HasOpenShape}
+use Rattle.encoding_definitions.proofs.SequenceLemmas.{decide_incomplete, IsIncomplete-prefix, HasOpenShape-IsIncomplete}
+use Rattle.encoding_definitions.proofs.SequenceLemmas.{IsSequence-HasShape, begins_by_range, second_goes_on, third_goes_on, HasOpenShape}
 use Rattle.encoding_definitions.specs.Parts.{Part, IllFormed, IsFirstPart, StartsWith}
 use Rattle.encoding_definitions.proofs.PartsLemmas.{part_bytes}
 use Rattle.encoding_text.specs.Decoding.{IsMalformed}
@@ -14,7 +16,8 @@ use Rattle.encoding_runs.specs.MalformedSequences.{IsNextMalformed}
 use Rattle.encoding_runs.proofs.MalformedLemmas.{next_size, first_size}
 use Rattle.encoding_runs.specs.declared.malformed.Malformation.{Malformation}
 use Rattle.encoding_runs.specs.Malformations.{IsMalformation, IsDisallowed, IsExcludedBy, overlong_rows, surrogate_rows, too_large_rows}
-use Rattle.encoding_runs.specs.declared.malformed.Malformation.TheVariants.{UnexpectedContinuation, DisallowedByte, Overlong, Surrogate, TooLarge, Truncated, IncompleteAtEnd}
+use Rattle.encoding_runs.specs.declared.malformed.Malformation.TheVariants.{UnexpectedContinuation, DisallowedByte, Overlong}
+use Rattle.encoding_runs.specs.declared.malformed.Malformation.TheVariants.{Surrogate, TooLarge, Truncated, IncompleteAtEnd}
 
 -- ---- by the first byte
 -- a byte that starts no incomplete sequence is malformed by itself

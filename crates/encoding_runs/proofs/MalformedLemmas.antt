@@ -1,12 +1,15 @@
 -- The index of the next malformed sequence, and that those found one after another are the malformed ones among the
 -- parts. Bytes are well-formed if and only if no part is malformed, and repaired text always is.
-use Rattle.std.proofs.Common.{◌≡◌, ◌↔◌, ℕ, List, [], ◌∷◌, map, encode_utf8, encode_utf8_all, refl, ap, ◌∙◌, arith, subst, ◌+◌, ◌<◌, ◌≤◌, inl, inr, true, ◌++◌, length, take, drop, slice_index, sym, take-add}
+use Rattle.std.proofs.Common.{◌≡◌, ◌↔◌, ℕ, List, [], ◌∷◌, map, encode_utf8, encode_utf8_all, refl, ap, ◌∙◌, arith, subst}
+use Rattle.std.proofs.Common.{◌+◌, ◌<◌, ◌≤◌, inl, inr, true, ◌++◌, length, take, drop, slice_index, sym, take-add}
 use Rattle.std.specs.List.{flat_map}
 use Rattle.std.specs.Str.{IsUtf8, all_scalars, chars}
-use Rattle.std.proofs.lemmas.List.{append-nil, append_assoc, length-append, length-take, length-drop, take_all, drop_more, drop-drop, take-take, get_or-take, take-append-drop}
+use Rattle.std.proofs.lemmas.List.{append-nil, append_assoc, length-append, length-take, length-drop}
+use Rattle.std.proofs.lemmas.List.{take_all, drop_more, drop-drop, take-take, get_or-take, take-append-drop}
 use Rattle.std.proofs.lemmas.Str.{IsUtf8-nil, IsUtf8-append, IsUtf8-encode, encodes-chars, chars-encodes, encodes-append}
 use Rattle.encoding_definitions.specs.Parts.{Part, Character, IllFormed, StartsWith, ArePartsOf, bytes_of, lossy_utf8, malformed_count, IsFirstPart}
-use Rattle.encoding_definitions.proofs.DecompositionLemmas.{StartsWith-characters, same_parts, parts-bytes, malformed_count-characters, StartsWith-append, StartsWith-one, parts_split, malformed_count-append}
+use Rattle.encoding_definitions.proofs.DecompositionLemmas.{StartsWith-characters, same_parts, parts-bytes, malformed_count-characters}
+use Rattle.encoding_definitions.proofs.DecompositionLemmas.{StartsWith-append, StartsWith-one, parts_split, malformed_count-append}
 use Rattle.std.proofs.lemmas.Bool.{cases_lt, and_from}
 use Rattle.std.proofs.str.Laws.{scalars-append}
 use Rattle.encoding_definitions.specs.Prefixes.{IsLongestPrefix}

@@ -10,7 +10,8 @@ use Rattle.encoding_text.proofs.CallLemmas.{decoded_yields}
 use Rattle.encoding_text.proofs.BorrowedLemmas.{borrowed_yields, same_piece}
 use Rattle.encoding_text.proofs.OneResultLemmas.{one_result}
 use Rattle.encoding_runs.specs.Calls.{Call, IsChain, YieldsFirstParts, YieldTheParts}
-use Rattle.encoding_runs.specs.MixedCalls.{Form, ToUtf16, ToUtf8, Borrowed, CallResult, Decoded, Handed, MixedDecodeStep, AreYielded, IsInputEmpty, ResultsAgree, AreAskedTheSame, ReturnTheSame}
+use Rattle.encoding_runs.specs.MixedCalls.{Form, ToUtf16, ToUtf8, Borrowed, CallResult, Decoded, Handed, MixedDecodeStep}
+use Rattle.encoding_runs.specs.MixedCalls.{AreYielded, IsInputEmpty, ResultsAgree, AreAskedTheSame, ReturnTheSame}
 use Rattle.encoding_runs.proofs.ChainLemmas.{decoded_empty, yielded_bytes, chain_yields}
 
 -- ---- what calls yield

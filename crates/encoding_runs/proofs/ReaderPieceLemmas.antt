@@ -1,6 +1,7 @@
 -- What is left in a buffer, how a read cuts a character, and what a call without a destination yields for at most one
 -- byte.
-use Rattle.std.proofs.Common.{◌≡◌, ℕ, ◌+◌, ◌-◌, ◌≤◌, List, take, drop, slice_range, sym, ap, ◌∙◌, arith, ◌≢◌, min, [], ◌∷◌, ◌++◌, length, subst, length-append, true, Bool, encode_utf8, encode_utf8_all, refl, append-nil}
+use Rattle.std.proofs.Common.{◌≡◌, ℕ, ◌+◌, ◌-◌, ◌≤◌, List, take, drop, slice_range, sym, ap, ◌∙◌, arith, ◌≢◌, min, [], ◌∷◌}
+use Rattle.std.proofs.Common.{◌++◌, length, subst, length-append, true, Bool, encode_utf8, encode_utf8_all, refl, append-nil}
 use Rattle.std.proofs.lemmas.List.{drop-take, drop-drop, length-take}
 use Rattle.encoding_runs.specs.Reading.{YieldsCharacters}
 use Rattle.encoding_runs.specs.Steps.{text_of}

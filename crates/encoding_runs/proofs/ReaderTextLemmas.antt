@@ -1,5 +1,7 @@
 -- The text that is left after what was returned, and the same text in UTF-16.
-use Rattle.std.proofs.Common.{◌≡◌, ℕ, true, false, Bool, List, [], ◌∷◌, ◌++◌, length, take, drop, Option, None, Some, encode_utf8, refl, sym, ap, subst, ◌∙◌, arith, append_assoc, take-append-drop, length-append, ◌≢◌, ◌<◌, ◌≤◌, ◌&&◌, map, encode_utf8_all, Result, Ok, Err, IfOk, OnErr, IsTrue, append-nil}
+use Rattle.std.proofs.Common.{◌≡◌, ℕ, true, false, Bool, List, [], ◌∷◌, ◌++◌, length, take, drop, Option, None, Some}
+use Rattle.std.proofs.Common.{encode_utf8, refl, sym, ap, subst, ◌∙◌, arith, append_assoc, take-append-drop, length-append}
+use Rattle.std.proofs.Common.{◌≢◌, ◌<◌, ◌≤◌, ◌&&◌, map, encode_utf8_all, Result, Ok, Err, IfOk, OnErr, IsTrue, append-nil}
 use Rattle.std.proofs.lemmas.List.{drop-append-le}
 use Rattle.std.proofs.lemmas.Str.{length-encode, len_utf8_bounds, chars-append, chars-encodes, encodes-chars, scalars-chars}
 use Rattle.std.specs.Str.Lossy.{utf8_lossy}

@@ -1,9 +1,11 @@
 -- What is written after the text of first parts, if a write fails in the middle of one, and once the engine wrote all
 -- of the text due.
-use Rattle.std.proofs.Common.{◌≡◌, ℕ, List, [], length, refl, sym, ap, ◌∙◌, arith, subst, ◌+◌, ◌<◌, ◌≤◌, Bool, false, ◌∷◌, ◌++◌, take, drop, Option, inl, inr, encode_utf8}
+use Rattle.std.proofs.Common.{◌≡◌, ℕ, List, [], length, refl, sym, ap, ◌∙◌, arith, subst, ◌+◌, ◌<◌}
+use Rattle.std.proofs.Common.{◌≤◌, Bool, false, ◌∷◌, ◌++◌, take, drop, Option, inl, inr, encode_utf8}
 use Rattle.std.proofs.lemmas.List.{append-nil, take_all, append_assoc, drop_all, length-drop, take-append-drop}
 use Rattle.encoding_definitions.specs.Parts.{Part, StartsWith, ArePartsOf, lossy_utf8, malformed_count}
-use Rattle.encoding_definitions.proofs.DecompositionLemmas.{has_final, parts_split, lossy_utf8-append, StartsWith-append, has_parts, lossy_utf8-characters, malformed_count-append, malformed_count-characters, malformed_count-bytes}
+use Rattle.encoding_definitions.proofs.DecompositionLemmas.{has_final, parts_split, lossy_utf8-append, StartsWith-append, has_parts, lossy_utf8-characters}
+use Rattle.encoding_definitions.proofs.DecompositionLemmas.{malformed_count-append, malformed_count-characters, malformed_count-bytes}
 use Rattle.encoding_runs.specs.Repairs.{IsLossyDecodeOf, IsFinalText, IsPrefix, HoldsRounds, IsProperPrefix, WritesRepaired, Stops}
 use Rattle.std.specs.Io.KnownBytes.{Appends}
 use Rattle.std.proofs.KnownBytes.{Appends-trans}

@@ -1,5 +1,6 @@
 -- The search for malformed sequences: the kind of one for any bytes that follow, and what calls find in sequence.
-use Rattle.std.proofs.Common.{◌≡◌, ℕ, ◌+◌, ◌<◌, ◌≤◌, ◌↔◌, inl, inr, Bool, true, false, List, [], ◌∷◌, ◌++◌, length, map, take, drop, slice_index, set, encode_utf8, refl, sym, ap, ◌∙◌, arith, subst}
+use Rattle.std.proofs.Common.{◌≡◌, ℕ, ◌+◌, ◌<◌, ◌≤◌, ◌↔◌, inl, inr, Bool, true, false, List, [], ◌∷◌, ◌++◌, length}
+use Rattle.std.proofs.Common.{map, take, drop, slice_index, set, encode_utf8, refl, sym, ap, ◌∙◌, arith, subst}
 use Rattle.std.specs.List.{flat_map}
 use Rattle.std.specs.Str.{chars}
 use Rattle.std.proofs.lemmas.List.{append-nil, append_assoc, drop-drop, length-append, length-take}
@@ -14,7 +15,8 @@ use Rattle.encoding_text.specs.declared.decoder.Piece.TheVariants as piece
 use Rattle.encoding_text.proofs.BorrowedLemmas.{borrowed_yields}
 use Rattle.encoding_text.proofs.RepairingLemmas.{yields_then}
 use Rattle.encoding_runs.specs.declared.malformed.Malformation.{Malformation}
-use Rattle.encoding_runs.specs.declared.malformed.Malformation.TheVariants.{UnexpectedContinuation, DisallowedByte, Overlong, Surrogate, TooLarge, Truncated, IncompleteAtEnd}
+use Rattle.encoding_runs.specs.declared.malformed.Malformation.TheVariants.{UnexpectedContinuation, DisallowedByte, Overlong}
+use Rattle.encoding_runs.specs.declared.malformed.Malformation.TheVariants.{Surrogate, TooLarge, Truncated, IncompleteAtEnd}
 use Rattle.encoding_runs.specs.Malformations.{IsMalformation}
 use Rattle.encoding_runs.specs.declared.search.StreamMalformation.{StreamMalformation}
 use Rattle.encoding_runs.specs.declared.search.SearchPiece.{SearchPiece}

@@ -1,23 +1,29 @@
 //! Laws of the definitions: each is the contract of a function that does nothing. A body that calls one, as
 //! `law_parts();`, can use its clauses.
-ghost use Rattle.std.specs.Prelude.{◌≡◌, ◌↔◌, ℕ, ◌+◌, ◌<◌, ◌≤◌, Bool, true, List, [], ◌∷◌, ◌++◌, Any, encode_utf8, length, map, encode_utf8_all, IsTrue, IsUtf8, ◌*◌, false, None};
+ghost use Rattle.std.specs.Prelude.{◌≡◌, ◌↔◌, ℕ, ◌+◌, ◌<◌, ◌≤◌, Bool, true, List, [], ◌∷◌, ◌++◌, Any};
+ghost use Rattle.std.specs.Prelude.{encode_utf8, length, map, encode_utf8_all, IsTrue, IsUtf8, ◌*◌, false, None};
 ghost use Rattle.std.specs.Char.{IsScalar};
 ghost use Rattle.std.specs.List.{flat_map, AllZip, last_or};
 ghost use Rattle.std.specs.Str.Lossy.{utf8_lossy};
 ghost use Rattle.encoding_definitions.specs.Sequence.{IsSequence, IsPending};
-ghost use Rattle.encoding_definitions.specs.Parts.{Part, IllFormed, IsFirstPart, StartsWith, ArePartsOf, AreFinal, bytes_of, malformed_count, lossy_utf8};
+ghost use Rattle.encoding_definitions.specs.Parts.{Part, IllFormed, IsFirstPart, StartsWith, ArePartsOf};
+ghost use Rattle.encoding_definitions.specs.Parts.{AreFinal, bytes_of, malformed_count, lossy_utf8};
 ghost use Rattle.encoding_text.specs.OneResult.{HasOneResult, HasOnePiece};
 ghost use Rattle.std.specs.Char.Escape.{encode_utf16};
 ghost use Rattle.std.specs.Char.Utf16.{utf16_lossy_chars, has_unpaired_surrogate};
 ghost use Rattle.std.specs.Str.{all_scalars, chars};
-ghost use Rattle.encoding_definitions.specs.Utf16.{AreCodeUnits, Part16, Character16, ArePartsOf16, IsUtf8OfLongestPrefix, IsUtf8OfUnits, scalar_of_part16, utf8_of_part16};
+ghost use Rattle.encoding_definitions.specs.Utf16.{AreCodeUnits, Part16, Character16, ArePartsOf16};
+ghost use Rattle.encoding_definitions.specs.Utf16.{IsUtf8OfLongestPrefix, IsUtf8OfUnits};
+ghost use Rattle.encoding_definitions.specs.Utf16.{scalar_of_part16, utf8_of_part16};
 ghost use Rattle.encoding_text.specs.Encoding.{IsPendingSurrogate, EncodeStep};
 ghost use Rattle.encoding_definitions.specs.Bidi.{IsRightToLeft, IsBidiBytes, IsBidiUnits};
 ghost use Rattle.encoding_definitions.specs.Surrogates.{IsValidUtf16, AreRepairedUnits, ReplacesUnpaired};
-ghost use Rattle.encoding_runs.specs.Calls.{WritesInTurn, Call, IsChain, read_in_all, output_of, pending_after, YieldsFirstParts, YieldTheParts, EncodesFirstParts};
+ghost use Rattle.encoding_runs.specs.Calls.{WritesInTurn, Call, IsChain, read_in_all, output_of};
+ghost use Rattle.encoding_runs.specs.Calls.{pending_after, YieldsFirstParts, YieldTheParts, EncodesFirstParts};
 ghost use Rattle.encoding_text.specs.declared.utf_8.encoder.EncoderResult.{EncoderResult};
 ghost use Rattle.encoding_text.specs.declared.utf_8.encoder.EncoderResult.TheVariants as encoded;
-ghost use Rattle.encoding_runs.specs.MixedCalls.{Form, CallResult, MixedDecodeStep, AreYielded, IsInputEmpty, AreAskedTheSame, ReturnTheSame, TextFits, HasQueriedLength, ReadsText};
+ghost use Rattle.encoding_runs.specs.MixedCalls.{Form, CallResult, MixedDecodeStep, AreYielded, IsInputEmpty};
+ghost use Rattle.encoding_runs.specs.MixedCalls.{AreAskedTheSame, ReturnTheSame, TextFits, HasQueriedLength, ReadsText};
 ghost use Rattle.encoding_runs.specs.declared.run.turns.Turn.{Turn};
 ghost use Rattle.encoding_runs.specs.Runs.{AreOfTurns, EachMakesProgress, Completes};
 ghost use Rattle.encoding_runs.specs.declared.repair.blocks.RepairedBlock.{RepairedBlock};
@@ -27,7 +33,8 @@ ghost use Rattle.encoding_runs.specs.MalformedSequences.{IsNextMalformed, AreFou
 ghost use Rattle.encoding_runs.specs.Malformations.{IsMalformation};
 ghost use Rattle.encoding_runs.specs.declared.search.StreamMalformation.{StreamMalformation};
 ghost use Rattle.encoding_runs.specs.declared.search.SearchedBlock.{SearchedBlock};
-ghost use Rattle.encoding_runs.specs.Searches.{IsBlockSearch, StartInTurn, FindTheMalformed, IsFinished, AreAllMalformed};
+ghost use Rattle.encoding_runs.specs.Searches.{IsBlockSearch, StartInTurn, FindTheMalformed};
+ghost use Rattle.encoding_runs.specs.Searches.{IsFinished, AreAllMalformed};
 ghost use Rattle.encoding_runs.specs.declared.malformed.Malformation.{Malformation};
 
 /// The well-formed sequences are exactly the UTF-8 of the scalar values, one for each. None is a proper prefix of
@@ -128,9 +135,9 @@ pub fn law_block_repair()
 
 /// Calls of `search_block` over one stream store the malformed sequences among the first parts of the stream, each with
 /// its offset, length and kind, for any cuts and any arrays. Each call starts with the first unread byte, and with what
-/// the previous call left pending and its offset. Once a call marked last is finished, these are all malformed sequences
-/// of the stream, in order. Bytes have exactly one list of them. Their offsets and lengths are what repeated calls of
-/// `next_malformed` find. Encoding Standard, UTF-8 decoder; Unicode Standard, Table 3-7.
+/// the previous call left pending and its offset. Once a call marked last is finished, these are all malformed
+/// sequences of the stream, in order. Bytes have exactly one list of them. Their offsets and lengths are what repeated
+/// calls of `next_malformed` find. Encoding Standard, UTF-8 decoder; Unicode Standard, Table 3-7.
 pub fn law_block_search()
     ensures prefix { (p : List ℕ) (start : ℕ) (b : List ℕ)
         (calls : List (Call (ℕ × ℕ) SearchedBlock StreamMalformation))
@@ -185,9 +192,9 @@ pub fn law_mixed_calls()
 {}
 
 /// UTF-16 code units have exactly one list of parts. With U+FFFD for each unpaired surrogate, they are those of std's
-/// lossy decoding, and their UTF-8 is a well-formed text: that of these scalar values. The parts of the UTF-16 of scalar
-/// values are these scalar values, so text converted to UTF-16 and back to UTF-8 is the same, byte for byte. Unicode
-/// Standard, section 3.9, UTF-16.
+/// lossy decoding, and their UTF-8 is a well-formed text: that of these scalar values. The parts of the UTF-16 of
+/// scalar values are these scalar values, so text converted to UTF-16 and back to UTF-8 is the same, byte for byte.
+/// Unicode Standard, section 3.9, UTF-16.
 pub fn law_utf16_round_trip()
     ensures exist { (us : List ℕ) → AreCodeUnits us
         → (parts : List Part16) × ArePartsOf16 us parts }

@@ -1,4 +1,5 @@
-//! Finds malformed sequences in bytes.
+//! Finds malformed sequences in bytes, and says why they are malformed. An incomplete sequence at the end is malformed
+//! too.
 ghost use Rattle.std.specs.Prelude.{◌≡◌, ◌↔◌, ◌+◌, ℕ, Bool, List, ◌∷◌, IfSome, IsUtf8, None, take, drop};
 ghost use Rattle.encoding_text.specs.Decoding.{IsMalformed};
 ghost use Rattle.encoding_runs.specs.MalformedSequences.{IsNextMalformed};
@@ -61,7 +62,6 @@ pub fn next_malformed(src: &[u8]) -> Option<MalformedSequence>
     }
 }
 
-/// Returns why a sequence is malformed that starts with `first` and is followed by `rest`.
 pub(crate) fn why_malformed(first: u8, rest: &[u8]) -> Malformation
     ensures { (more : List ℕ) (last : Bool) → IsMalformed (first ∷ more) rest.now last
         → IsMalformation (first ∷ more) rest.now result }
@@ -85,11 +85,11 @@ pub(crate) fn why_malformed(first: u8, rest: &[u8]) -> Malformation
     }
 }
 
-/// Returns the first malformed sequence of `src`, as [`next_malformed`] does, and why it is malformed. Returns `None` if
-/// and only if `src` is well-formed.
+/// Returns the first malformed sequence of `src`, as [`next_malformed`] does, and why it is malformed. Returns `None`
+/// if and only if `src` is well-formed.
 ///
-/// The kind is that of the sequence and the byte after it in `src`, or of the end of `src`. Allocates no memory. Unicode
-/// Standard, Table 3-7.
+/// The kind is that of the sequence and the byte after it in `src`, or of the end of `src`. Allocates no memory.
+/// Unicode Standard, Table 3-7.
 pub fn next_malformation(src: &[u8]) -> Option<(MalformedSequence, Malformation)>
     ensures if_some { IfSome result
         (λ found. IsNextMalformed src.now found.0.place found.0.length) }

@@ -1,4 +1,5 @@
-//! Repairs UTF-8: writes the text of the input, with U+FFFD for each malformed sequence.
+//! Repairs UTF-8: writes the text of the input, with U+FFFD for each malformed sequence. The input is a stream, a slice
+//! or a block of a stream.
 mod blocks;
 mod engine;
 mod streams;

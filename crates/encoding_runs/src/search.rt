@@ -1,4 +1,5 @@
-//! Finds the malformed sequences of a stream, by blocks. The caller provides each block, and an array for what is found.
+//! Finds the malformed sequences of a stream, by blocks. The caller provides each block, and an array for what is
+//! found.
 ghost use Rattle.std.specs.Prelude.{◌≡◌, ℕ, ◌+◌, ◌≤◌, ◌↔◌, List, [], length, take, IsTrue};
 ghost use Rattle.encoding_definitions.specs.Prefixes.{WritesPrefix};
 ghost use Rattle.encoding_definitions.specs.Sequence.{IsPending};
@@ -46,8 +47,8 @@ pub struct SearchedBlock {
     pub finished: bool,
 }
 
-/// A search through a stream, between two blocks. In contracts it is the pair of its pending bytes, which are none or an
-/// incomplete sequence, and the offset of the first byte after all parts that were found.
+/// A search through a stream, between two blocks. In contracts it is the pair of its pending bytes, which are none or
+/// an incomplete sequence, and the offset of the first byte after all parts that were found.
 #[derive(Drop)]
 pub struct MalformedSearch {
     decoder: Utf8Decoder,
@@ -160,9 +161,9 @@ impl MalformedSearch {
 /// Stores offset, length and kind of each malformed sequence of the next block of a stream, in order, and returns how
 /// much it read and stored.
 ///
-/// `last` says that no block follows. Pass a new search with the first block. An incomplete sequence at the end of a block
-/// that isn't the last is pending, and the next block decides. The offset of the first byte after `src` must not exceed
-/// `u64::MAX`.
+/// `last` says that no block follows. Pass a new search with the first block. An incomplete sequence at the end of a
+/// block that isn't the last is pending, and the next block decides. The offset of the first byte after `src` must not
+/// exceed `u64::MAX`.
 ///
 /// If the result is not `finished`, call again with the unread bytes and an emptied array. An array of one element is
 /// enough to make progress. For any blocks and arrays, all calls store exactly the malformed sequences of the whole
@@ -183,7 +184,7 @@ pub fn search_block(
         ≡ search.old.1 + length search.old.0 + result.read }
 {
     // Without a call of the search no other clause says that the pending bytes are none or an incomplete sequence.
-    let _neutral = search.in_neutral_state();
+    prove!(search.decoder.pending().1 <= 3);
     let mut block = SearchedBlock {
         read: 0,
         found: 0,

@@ -1,6 +1,7 @@
 -- Calls without a destination: when a byte doesn't continue what is pending, and what each call yields. For any pending
 -- bytes, source and mark such a call has exactly one result.
-use Rattle.std.proofs.Common.{◌≡◌, ℕ, inl, inr, Bool, List, [], ◌∷◌, ◌++◌, map, take, drop, encode_utf8, encode_utf8_all, refl, sym, ap, ◌∙◌, arith, ◌<◌, ◌≤◌, true, false, length, subst}
+use Rattle.std.proofs.Common.{◌≡◌, ℕ, inl, inr, Bool, List, [], ◌∷◌, ◌++◌, map, take, drop, encode_utf8}
+use Rattle.std.proofs.Common.{encode_utf8_all, refl, sym, ap, ◌∙◌, arith, ◌<◌, ◌≤◌, true, false, length, subst}
 use Rattle.std.specs.Str.{chars, all_scalars, IsUtf8}
 use Rattle.std.proofs.lemmas.Bool.{and_from, and_parts}
 use Rattle.std.proofs.lemmas.List.{append-nil, length-append, length-take, take_all, append_assoc, length-drop, nil_from_length, take-append-drop}

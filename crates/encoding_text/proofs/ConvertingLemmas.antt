@@ -1,6 +1,7 @@
 -- Converting character by character: whole characters up to one that doesn't fit are the longest prefix that fits, and
 -- the converse. Into a destination in UTF-16 that is as long as the source, all characters fit.
-use Rattle.std.proofs.Common.{◌≡◌, ℕ, zero, suc, ◌+◌, ◌-◌, ◌<◌, ◌≤◌, ◌⊎◌, inl, inr, true, List, [], ◌∷◌, ◌++◌, length, take, drop, encode_utf8, encode_utf8_all, refl, sym, ap, ◌∙◌, arith, subst, take-add}
+use Rattle.std.proofs.Common.{◌≡◌, ℕ, zero, suc, ◌+◌, ◌-◌, ◌<◌, ◌≤◌, ◌⊎◌, inl, inr, true, List, [], ◌∷◌, ◌++◌, length}
+use Rattle.std.proofs.Common.{take, drop, encode_utf8, encode_utf8_all, refl, sym, ap, ◌∙◌, arith, subst, take-add}
 use lib.Utf8.{scalar}
 use Rattle.std.specs.Char.{IsScalar}
 use Rattle.std.specs.Char.Escape.{encode_utf16}
@@ -8,7 +9,8 @@ use Rattle.std.specs.Str.{all_scalars, IsAscii, IsUtf8, chars}
 use Rattle.std.specs.List.{flat_map}
 use Rattle.std.proofs.lemmas.Bool.{and_from, and_parts, cases_lt}
 use Rattle.std.proofs.lemmas.Grind.{flat_map-append}
-use Rattle.std.proofs.lemmas.List.{append-nil, append_assoc, length-append, length-drop, length-take, length-take-le, take_at, drop_at, take_rest, take-append-drop, take-take, take_all}
+use Rattle.std.proofs.lemmas.List.{append-nil, append_assoc, length-append, length-drop, length-take, length-take-le}
+use Rattle.std.proofs.lemmas.List.{take_at, drop_at, take_rest, take-append-drop, take-take, take_all}
 use Rattle.std.proofs.lemmas.Str.{encodes-append, encode_same, length-encode, len_utf8_bounds, IsUtf8-encode, IsUtf8-append, chars_from_encodes}
 use Rattle.std.proofs.str.Laws.{scalars-append}
 use borrow.Rule.Slice.PartMut.{put_mid}
@@ -18,7 +20,8 @@ use Rattle.encoding_definitions.specs.Converting.{AreScalarsOfValidPrefix, Conve
 use Rattle.encoding_text.specs.Steps.{ConvertsSome, ConvertsUntilFull}
 use Rattle.encoding_definitions.proofs.SequenceLemmas.{IsSequence-some}
 use Rattle.encoding_definitions.proofs.EncodingLemmas.{IsSequence-encode, flat_map-encode_utf8, encodes_one, length-utf16}
-use Rattle.encoding_definitions.proofs.PrefixesLemmas.{WritesPrefix_after, WritesPrefix_over, WritesPrefix-length, WritesPrefix-same, put_mid-same, IsLongestFittingPrefix-all, IsLongestFittingPrefix-stop, flat_map_push, length-prefix}
+use Rattle.encoding_definitions.proofs.PrefixesLemmas.{WritesPrefix_after, WritesPrefix_over, WritesPrefix-length, WritesPrefix-same, put_mid-same}
+use Rattle.encoding_definitions.proofs.PrefixesLemmas.{IsLongestFittingPrefix-all, IsLongestFittingPrefix-stop, flat_map_push, length-prefix}
 use Rattle.encoding_definitions.proofs.Utf8Lemmas.{IsLongestPrefix-utf8, no_character_after}
 use Rattle.encoding_definitions.proofs.DecompositionLemmas.{has_parts}
 use Rattle.encoding_text.proofs.WholePrefixesLemmas as whole

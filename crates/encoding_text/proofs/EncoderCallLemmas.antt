@@ -1,12 +1,16 @@
 -- Calls of the encoder: the UTF-8 of the first parts of code units, and the characters of a text that fit.
-use Rattle.std.proofs.Common.{◌≡◌, ℕ, zero, suc, ◌+◌, ◌*◌, ◌<◌, ◌≤◌, inl, inr, Bool, true, false, List, [], ◌∷◌, ◌++◌, length, take, drop, refl, sym, ap, ◌∙◌, arith, subst, ◌-◌, encode_utf8}
+use Rattle.std.proofs.Common.{◌≡◌, ℕ, zero, suc, ◌+◌, ◌*◌, ◌<◌, ◌≤◌, inl, inr, Bool, true, false, List, [], ◌∷◌}
+use Rattle.std.proofs.Common.{◌++◌, length, take, drop, refl, sym, ap, ◌∙◌, arith, subst, ◌-◌, encode_utf8}
 use Rattle.std.specs.List.{flat_map}
 use Rattle.std.proofs.lemmas.Bool.{cases_lt}
-use Rattle.std.proofs.lemmas.List.{append_assoc, append-nil, length-append, length-drop, drop_all, drop_at, drop-drop, drop-append-le, take-append-le, take-append-drop, length-take-le, take_all, take_rest}
+use Rattle.std.proofs.lemmas.List.{append_assoc, append-nil, length-append, length-drop, drop_all, drop_at, drop-drop}
+use Rattle.std.proofs.lemmas.List.{drop-append-le, take-append-le, take-append-drop, length-take-le, take_all, take_rest}
 use Rattle.std.proofs.lemmas.List.Concat.{flat_map-append}
-use Rattle.encoding_definitions.specs.Utf16.{AreCodeUnits, Part16, Unpaired, units_of_part16, ArePartsOf16, StartsWith16, IsHighSurrogate, Character16, utf8_of_part16}
+use Rattle.encoding_definitions.specs.Utf16.{AreCodeUnits, Part16, Unpaired, units_of_part16, ArePartsOf16}
+use Rattle.encoding_definitions.specs.Utf16.{StartsWith16, IsHighSurrogate, Character16, utf8_of_part16}
 use Rattle.encoding_definitions.specs.FirstScalar.{BeginsLow}
-use Rattle.encoding_text.specs.Encoding.{IsPendingSurrogate, EndsHigh, AreEncodable, IsEncodeResult, EncodeStep, encodable_with_text, text_bytes_of, IsTextEncodeResult, TextEncodeStep}
+use Rattle.encoding_text.specs.Encoding.{IsPendingSurrogate, EndsHigh, AreEncodable, IsEncodeResult, EncodeStep}
+use Rattle.encoding_text.specs.Encoding.{encodable_with_text, text_bytes_of, IsTextEncodeResult, TextEncodeStep}
 use Rattle.encoding_text.specs.declared.utf_8.encoder.EncoderResult.{EncoderResult}
 use Rattle.encoding_text.specs.declared.utf_8.encoder.EncoderResult.TheVariants.{InputEmpty, OutputFull}
 use Rattle.encoding_definitions.proofs.Utf16Lemmas.{parts_of, parts_exist, length-utf8_of_all}
@@ -18,7 +22,8 @@ use Rattle.std.specs.Str.{chars, IsUtf8, IsCharBoundary}
 use Rattle.std.proofs.lemmas.Str.{length-encode, len_utf8_bounds, IsUtf8-take, IsUtf8-drop, chars-append, encodes-chars, IsCharBoundary-past_char}
 use Rattle.encoding_definitions.proofs.EncodingLemmas.{flat_map-encode_utf8}
 use Rattle.encoding_definitions.specs.Prefixes.{IsLongestFittingPrefix, WritesPrefix}
-use Rattle.encoding_definitions.proofs.PrefixesLemmas.{IsLongestFittingPrefix-all, IsLongestFittingPrefix-stop, WritesPrefix_after, WritesPrefix-length, IsLongestFittingPrefix-cons, IsLongestFittingPrefix-map, length-prefix, written_is, written_prefix}
+use Rattle.encoding_definitions.proofs.PrefixesLemmas.{IsLongestFittingPrefix-all, IsLongestFittingPrefix-stop, WritesPrefix_after, WritesPrefix-length}
+use Rattle.encoding_definitions.proofs.PrefixesLemmas.{IsLongestFittingPrefix-cons, IsLongestFittingPrefix-map, length-prefix, written_is, written_prefix}
 use borrow.Rule.Slice.PartMut.{put_mid}
 use Rattle.encoding_kernels.proofs.OverwriteLemmas.{utf8_plain}
 

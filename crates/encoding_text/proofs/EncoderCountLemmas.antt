@@ -1,6 +1,7 @@
 -- The number of unpaired surrogates that a call of the encoder replaced: in the pending surrogate and the units that it
 -- read.
-use Rattle.std.proofs.Common.{◌≡◌, ℕ, zero, suc, ◌+◌, ◌-◌, ◌<◌, ◌≤◌, inl, Bool, List, [], ◌∷◌, ◌++◌, length, take, drop, slice_index, refl, sym, ap, ◌∙◌, arith, subst}
+use Rattle.std.proofs.Common.{◌≡◌, ℕ, zero, suc, ◌+◌, ◌-◌, ◌<◌, ◌≤◌, inl, Bool, List, [], ◌∷◌, ◌++◌}
+use Rattle.std.proofs.Common.{length, take, drop, slice_index, refl, sym, ap, ◌∙◌, arith, subst}
 use Rattle.std.specs.Char.Utf16.{surrogate_pair_char}
 use Rattle.std.proofs.lemmas.List.{append_assoc, append_cancel_right, length-append, length-drop, length-take-le, drop-append-le, take-append-drop}
 use Rattle.encoding_definitions.specs.Surrogates.{HasUnpaired}

@@ -1,5 +1,6 @@
 -- One call of the encoder: what is to be written, and a call that starts with the pending surrogate.
-use Rattle.std.proofs.Common.{◌≡◌, ℕ, suc, ◌+◌, ◌-◌, ◌*◌, ◌<◌, ◌≤◌, ◌⊎◌, inl, inr, Bool, true, false, List, [], ◌∷◌, ◌++◌, length, take, drop, get_or, encode_utf8, refl, sym, ap, ◌∙◌, arith, subst, append_assoc}
+use Rattle.std.proofs.Common.{◌≡◌, ℕ, suc, ◌+◌, ◌-◌, ◌*◌, ◌<◌, ◌≤◌, ◌⊎◌, inl, inr, Bool, true, false, List, [], ◌∷◌, ◌++◌}
+use Rattle.std.proofs.Common.{length, take, drop, get_or, encode_utf8, refl, sym, ap, ◌∙◌, arith, subst, append_assoc}
 use Rattle.std.specs.Char.{len_utf8}
 use Rattle.std.specs.Char.Escape.{encode_utf16}
 use Rattle.std.specs.List.{flat_map}
@@ -11,12 +12,14 @@ use Rattle.std.proofs.lemmas.List.{length-append, length-drop, length-take-le, t
 use borrow.Rule.Slice.PartMut.{put_mid}
 use Rattle.std.proofs.str.Utf16.{one_unit}
 use Rattle.encoding_definitions.specs.Prefixes.{WritesPrefix}
-use Rattle.encoding_definitions.specs.Utf16.{AreCodeUnits, Part16, Character16, Unpaired, units_of_part16, utf8_of_part16, ArePartsOf16, IsHighSurrogate, IsUtf8OfLongestPrefix}
+use Rattle.encoding_definitions.specs.Utf16.{AreCodeUnits, Part16, Character16, Unpaired, units_of_part16}
+use Rattle.encoding_definitions.specs.Utf16.{utf8_of_part16, ArePartsOf16, IsHighSurrogate, IsUtf8OfLongestPrefix}
 use Rattle.encoding_definitions.specs.FirstScalar.{BeginsLow, IsFirstPart16, IsFirstScalar}
 use Rattle.encoding_text.specs.Encoding.{IsPendingSurrogate, EndsHigh, AreEncodable, IsEncodeResult, EncodeStep}
 use Rattle.encoding_text.specs.declared.utf_8.encoder.EncoderResult.{EncoderResult}
 use Rattle.encoding_text.specs.declared.utf_8.encoder.EncoderResult.TheVariants.{InputEmpty, OutputFull}
-use Rattle.encoding_definitions.proofs.PrefixesLemmas.{IsLongestFittingPrefix-stop, WritesPrefix_after, WritesPrefix-length, IsLongestFittingPrefix-cons, written_is, written_prefix}
+use Rattle.encoding_definitions.proofs.PrefixesLemmas.{IsLongestFittingPrefix-stop, WritesPrefix_after, WritesPrefix-length}
+use Rattle.encoding_definitions.proofs.PrefixesLemmas.{IsLongestFittingPrefix-cons, written_is, written_prefix}
 use Rattle.encoding_definitions.proofs.Utf16Lemmas.{parts_of, parts_exist, ArePartsOf16-cons, halves, length-units_of_part16}
 use Rattle.encoding_definitions.proofs.Utf16PrefixLemmas.{all_fit, units_counted}
 use Rattle.encoding_kernels.proofs.ScanLemmas.{Each-take}

@@ -1,11 +1,13 @@
 -- Conversions from and to Latin1: the longest fitting prefix of bytes, and the bits of characters.
-use Rattle.std.proofs.Common.{◌≡◌, ℕ, zero, suc, ◌+◌, ◌-◌, ◌*◌, ◌/◌, ◌%◌, ◌<◌, ◌≤◌, ◌⊎◌, inl, inr, List, [], ◌∷◌, ◌++◌, length, take, drop, take-add, append_assoc, set, slice_index, map, bit_and, bit_or, encode_utf8, encode_utf8_all, IsUtf8, refl, sym, ap, ◌∙◌, arith, subst}
+use Rattle.std.proofs.Common.{◌≡◌, ℕ, zero, suc, ◌+◌, ◌-◌, ◌*◌, ◌/◌, ◌%◌, ◌<◌, ◌≤◌, ◌⊎◌, inl, inr, List, [], ◌∷◌, ◌++◌, length, take, drop, take-add}
+use Rattle.std.proofs.Common.{append_assoc, set, slice_index, map, bit_and, bit_or, encode_utf8, encode_utf8_all, IsUtf8, refl, sym, ap, ◌∙◌, arith, subst}
 use Rattle.std.specs.List.{flat_map}
 use Rattle.std.specs.Str.{chars, IsAscii}
 use Rattle.std.proofs.str.Laws.{two}
 use Rattle.std.proofs.lemmas.Bool.{cases_lt}
 use Rattle.std.proofs.lemmas.Grind.{common_steps}
-use Rattle.std.proofs.lemmas.List.{append-nil, length-append, length-map, length-drop, length-take, length-take-le, get_or-drop, get_or-take, get_or_past, drop-drop, take_all, take_at, take_more, take_rest, drop_more, take-append-drop, map_more, map-append}
+use Rattle.std.proofs.lemmas.List.{append-nil, length-append, length-map, length-drop, length-take, length-take-le, get_or-drop, get_or-take}
+use Rattle.std.proofs.lemmas.List.{get_or_past, drop-drop, take_all, take_at, take_more, take_rest, drop_more, take-append-drop, map_more, map-append}
 use Rattle.std.proofs.lemmas.Str.{encodes-append, encodes-IsAscii, chars-IsAscii, chars-append, IsUtf8-from_ascii}
 use Rattle.std.proofs.Math.Seq.{drop-append_seam, take-append_seam}
 use borrow.Rule.Slice.PartMut.{put_mid}
@@ -19,7 +21,8 @@ use Rattle.std.specs.Simd.Lanes.{chunk}
 use Rattle.encoding_kernels.proofs.Latin1FromUtf8Lemmas.{GoesOnWith, NextIs, Splits, apart_chunk, nexts, splits, ended_without}
 use Rattle.encoding_kernels.proofs.ScanLemmas.{Each-take, Each-at, WritesPrefix_copy}
 use Rattle.encoding_kernels.proofs.OverwriteLemmas.{ascii_left, written_left}
-use Rattle.encoding_definitions.proofs.PrefixesLemmas.{IsLongestFittingPrefix-stop, IsLongestFittingPrefix-all, WritesPrefix-length, WritesPrefix_again, WritesPrefix_push, WritesPrefix_push_two, WritesPrefix_after, WritesPrefix_put, WritesPrefix-same}
+use Rattle.encoding_definitions.proofs.PrefixesLemmas.{IsLongestFittingPrefix-stop, IsLongestFittingPrefix-all, WritesPrefix-length, WritesPrefix_again}
+use Rattle.encoding_definitions.proofs.PrefixesLemmas.{WritesPrefix_push, WritesPrefix_push_two, WritesPrefix_after, WritesPrefix_put, WritesPrefix-same}
 use Rattle.encoding_text.proofs.WholePrefixesLemmas.{other_after}
 use Rattle.encoding_definitions.proofs.Latin1Lemmas.{IsLatin1-following, next_of_one, next_of_two, split_prefix, scalars_of_latin1}
 

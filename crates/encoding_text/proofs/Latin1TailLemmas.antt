@@ -1,7 +1,9 @@
 -- The last sixteen bytes of Latin1 text in UTF-8 as one block, which may begin in the middle of a character.
-use Rattle.std.proofs.Common.{◌≡◌, ℕ, zero, suc, ◌+◌, ◌-◌, ◌<◌, ◌≤◌, ◌⊎◌, List, ◌∷◌, ◌++◌, length, take, drop, slice_index, encode_utf8_all, sym, ap, ◌∙◌, arith, subst, append_assoc}
+use Rattle.std.proofs.Common.{◌≡◌, ℕ, zero, suc, ◌+◌, ◌-◌, ◌<◌, ◌≤◌, ◌⊎◌, List, ◌∷◌, ◌++◌, length, take}
+use Rattle.std.proofs.Common.{drop, slice_index, encode_utf8_all, sym, ap, ◌∙◌, arith, subst, append_assoc}
 use Rattle.std.specs.Simd.Lanes.{chunk}
-use Rattle.std.proofs.lemmas.List.{length-append, length-drop, length-take, length-take-le, get_or-drop, get_or-take, drop-drop, take_at, take-take, take-append-drop}
+use Rattle.std.proofs.lemmas.List.{length-append, length-drop, length-take, length-take-le, get_or-drop}
+use Rattle.std.proofs.lemmas.List.{get_or-take, drop-drop, take_at, take-take, take-append-drop}
 use Rattle.std.proofs.lemmas.Simd.{get_or-chunk}
 use Rattle.encoding_definitions.specs.Latin1.{IsLatin1}
 use Rattle.encoding_definitions.specs.Prefixes.{WritesPrefix}

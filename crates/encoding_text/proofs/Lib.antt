@@ -14,6 +14,7 @@ pub mod BorrowedLemmas
 pub mod CallLemmas
 pub mod ConvertingLemmas
 pub mod DecodeLemmas
+pub mod DefinitionRules
 pub mod EncoderCountLemmas
 pub mod EncoderLemmas
 pub mod EncoderCallLemmas

@@ -1,5 +1,6 @@
 -- For any pending bytes, source, space and mark a decode call has a result, and exactly one.
-use Rattle.std.proofs.Common.{◌≡◌, ◌≢◌, ℕ, ◌+◌, ◌-◌, ◌<◌, ◌≤◌, ◌⊎◌, inl, inr, Bool, true, false, List, [], ◌∷◌, ◌++◌, length, encode_utf8, encode_utf8_all, refl, sym, ap, ◌∙◌, arith, subst, zero, suc, take, drop}
+use Rattle.std.proofs.Common.{◌≡◌, ◌≢◌, ℕ, ◌+◌, ◌-◌, ◌<◌, ◌≤◌, ◌⊎◌, inl, inr, Bool, true, false, List, [], ◌∷◌, ◌++◌}
+use Rattle.std.proofs.Common.{length, encode_utf8, encode_utf8_all, refl, sym, ap, ◌∙◌, arith, subst, zero, suc, take, drop}
 use Rattle.std.specs.Char.{IsScalar}
 use Rattle.std.specs.Str.{all_scalars}
 use Rattle.std.proofs.lemmas.Bool.{and_parts, cases_Bool, cases_lt}
@@ -12,7 +13,8 @@ use Rattle.encoding_text.specs.Decoding.{IsMalformed, DecodeStep, IsDecodeResult
 use Rattle.encoding_text.specs.declared.decoder.DecoderResult.{DecoderResult}
 use Rattle.encoding_text.specs.declared.decoder.DecoderResult.TheVariants.{InputEmpty, OutputFull, Malformed}
 use Rattle.encoding_definitions.proofs.EncodingLemmas.{IsSequence-encode, length_encode_utf8_le, length-encode_utf16-le}
-use Rattle.encoding_definitions.proofs.PartsLemmas.{prefixes_nest, no_sequence_in_incomplete, first_open, has_first_part, part_bytes, unpaired_part, rejected_part}
+use Rattle.encoding_definitions.proofs.PartsLemmas.{prefixes_nest, no_sequence_in_incomplete, first_open}
+use Rattle.encoding_definitions.proofs.PartsLemmas.{has_first_part, part_bytes, unpaired_part, rejected_part}
 use Rattle.encoding_definitions.proofs.DecompositionLemmas.{has_parts}
 use Rattle.encoding_text.proofs.ConvertingLemmas.{cut_after}
 use Rattle.encoding_text.proofs.DecodeLemmas.{silent_call, call_after}

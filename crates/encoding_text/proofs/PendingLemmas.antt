@@ -4,7 +4,8 @@ use Rattle.std.proofs.lemmas.List.{take_at}
 use Rattle.std.proofs.lemmas.Bool.{cases_lt}
 use Rattle.encoding_definitions.specs.Sequence.{IsSequence, IsIncomplete, IsPending}
 use Rattle.encoding_text.specs.Steps.{GoesOn}
-use Rattle.encoding_definitions.proofs.SequenceLemmas.{HasShape, HasOpenShape, HasShape-IsSequence, IsSequence-HasShape, HasOpenShape-IsIncomplete, IsIncomplete-HasOpenShape, second_two, second_more, second_from, second_two_from, length_by_first}
+use Rattle.encoding_definitions.proofs.SequenceLemmas.{HasShape, HasOpenShape, HasShape-IsSequence, IsSequence-HasShape, HasOpenShape-IsIncomplete}
+use Rattle.encoding_definitions.proofs.SequenceLemmas.{IsIncomplete-HasOpenShape, second_two, second_more, second_from, second_two_from, length_by_first}
 
 -- the length of the sequences that start with this byte
 abbrev pub SequenceLength : ℕ → ℕ → Type 0

@@ -1,11 +1,14 @@
 -- The first parts of bytes, with U+FFFD for each malformed sequence, up to one that doesn't fit.
-use Rattle.std.proofs.Common.{◌≡◌, ◌≢◌, inl, inr, ℕ, ◌+◌, ◌-◌, ◌<◌, ◌≤◌, true, List, [], ◌∷◌, ◌++◌, length, take, drop, encode_utf8_all, refl, sym, ap, ◌∙◌, arith, subst}
+use Rattle.std.proofs.Common.{◌≡◌, ◌≢◌, inl, inr, ℕ, ◌+◌, ◌-◌, ◌<◌, ◌≤◌, true, List, [], ◌∷◌, ◌++◌}
+use Rattle.std.proofs.Common.{length, take, drop, encode_utf8_all, refl, sym, ap, ◌∙◌, arith, subst}
 use Rattle.std.specs.List.{flat_map}
 use Rattle.std.proofs.lemmas.Bool.{cases_lt}
-use Rattle.std.proofs.lemmas.List.{append-nil, append_assoc, drop-drop, drop_all, length-append, length-drop, length-take, length_push, take_at, take_rest, take-append-drop}
+use Rattle.std.proofs.lemmas.List.{append-nil, append_assoc, drop-drop, drop_all, length-append, length-drop}
+use Rattle.std.proofs.lemmas.List.{length-take, length_push, take_at, take_rest, take-append-drop}
 use borrow.Rule.Slice.PartMut.{put_mid}
 use Rattle.encoding_definitions.specs.Sequence.{IsSequence}
-use Rattle.encoding_definitions.specs.Parts.{Part, Character, IllFormed, bytes_of, BeginsWithNoCharacter, IsFirstPart, StartsWith, ArePartsOf, Yields, lossy_scalar, malformed_count}
+use Rattle.encoding_definitions.specs.Parts.{Part, Character, IllFormed, bytes_of, BeginsWithNoCharacter, IsFirstPart}
+use Rattle.encoding_definitions.specs.Parts.{StartsWith, ArePartsOf, Yields, lossy_scalar, malformed_count}
 use Rattle.encoding_definitions.specs.Prefixes.{WritesPrefix}
 use Rattle.encoding_definitions.specs.Converting.{FittingBegins}
 use Rattle.encoding_definitions.proofs.PartsLemmas.{part_bytes}
@@ -15,7 +18,8 @@ use Rattle.encoding_text.specs.Decoding.{DecodeStepInto, IsMalformed}
 use Rattle.encoding_text.specs.declared.decoder.DecoderResult.{DecoderResult}
 use Rattle.encoding_text.specs.declared.decoder.DecoderResult.TheVariants.{InputEmpty, OutputFull, Malformed}
 use Rattle.encoding_text.specs.Replacing.{ConvertsParts}
-use Rattle.encoding_text.proofs.CallLemmas.{malformed_first, malformed_some}
+use Rattle.encoding_text.proofs.CallLemmas.{malformed_first, malformed_some, not_ascii}
+use Rattle.encoding_text.proofs.FirstLemmas.{all_malformed}
 use Rattle.encoding_text.proofs.RepairingLemmas.{Repaired, lossy, repaired_more, repaired_report, yields_then}
 
 -- after `OutputFull` nothing is pending, if nothing was
@@ -26,6 +30,9 @@ none_pending (b ∷ q) read h = (h (λ e. cc)).1
 -- bytes that start with a character
 pub begins_character : (bs : List ℕ) (n : ℕ) → IsSequence (take n bs) → BeginsWithNoCharacter bs → bs ≡ []
 begins_character bs n s none = absurd (none (take n bs) (drop n bs) (sym (take-append-drop n bs)) s)
+
+-- the malformed sequence at the start of all that is left
+pub ruleset malformed_at_end = (not_ascii, begins_character, all_malformed)
 
 -- no bytes have a first part
 none_first : (bs : List ℕ) (part : Part) (after : List ℕ) → bs ≡ [] → IsFirstPart bs part after → ⊥

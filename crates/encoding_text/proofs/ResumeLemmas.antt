@@ -1,10 +1,12 @@
 -- An incomplete sequence p in an array of four bytes, followed by the first m bytes of the source: bs. What its first n bytes are.
 use borrow.Rule.Slice.PartMut.{put_mid}
-use Rattle.std.proofs.Common.{◌≡◌, ◌≢◌, ℕ, ◌-◌, ◌+◌, ◌<◌, ◌≤◌, inl, inr, false, true, List, [], ◌∷◌, ◌++◌, length, take, drop, slice_index, refl, sym, ap, ◌∙◌, arith, subst}
+use Rattle.std.proofs.Common.{◌≡◌, ◌≢◌, ℕ, ◌-◌, ◌+◌, ◌<◌, ◌≤◌, inl, inr, false, true, List, [], ◌∷◌}
+use Rattle.std.proofs.Common.{◌++◌, length, take, drop, slice_index, refl, sym, ap, ◌∙◌, arith, subst}
 use Prim.Native.Nat.{min}
 use Rattle.std.proofs.Math.Seq.{take-append-add, drop-append-add}
 use Rattle.std.proofs.lemmas.Bool.{cases_lt}
-use Rattle.std.proofs.lemmas.List.{length-append, length-take, length-drop, take-append-drop, take-append-le, drop-append-le, take-take, take_all, get_or_append_left}
+use Rattle.std.proofs.lemmas.List.{length-append, length-take, length-drop, take-append-drop}
+use Rattle.std.proofs.lemmas.List.{take-append-le, drop-append-le, take-take, take_all, get_or_append_left}
 use Rattle.std.proofs.lemmas.Slice.{take-put_mid}
 use Rattle.encoding_definitions.specs.Sequence.{IsSequence, IsIncomplete, IsPending}
 use Rattle.encoding_definitions.proofs.PartsLemmas.{first_open}

@@ -1,11 +1,13 @@
 -- What follows from one call: it makes progress, and a destination of the queried length is large enough.
-use Rattle.std.proofs.Common.{◌≡◌, ℕ, ◌+◌, ◌-◌, ◌<◌, ◌≤◌, ◌⊎◌, inl, inr, Bool, true, List, ◌++◌, length, take, encode_utf8, encode_utf8_all, refl, sym, ap, ◌∙◌, arith}
+use Rattle.std.proofs.Common.{◌≡◌, ℕ, ◌+◌, ◌-◌, ◌<◌, ◌≤◌, ◌⊎◌, inl, inr, Bool, true, List, ◌++◌}
+use Rattle.std.proofs.Common.{length, take, encode_utf8, encode_utf8_all, refl, sym, ap, ◌∙◌, arith}
 use Rattle.std.specs.Char.Escape.{encode_utf16}
 use Rattle.std.specs.Str.{all_scalars}
 use Rattle.std.specs.List.{flat_map}
 use Rattle.std.proofs.lemmas.Bool.{cases_lt}
 use Rattle.std.proofs.lemmas.List.{append-nil, length-append, length-take}
-use Rattle.encoding_text.specs.Decoding.{DecodeStep, DecodeStepInto, IsReport, Suffices, SufficesReplacing, max_utf16_length, max_utf8_length, max_utf8_length_with_replacement}
+use Rattle.encoding_text.specs.Decoding.{DecodeStep, DecodeStepInto, IsReport, Suffices, SufficesReplacing}
+use Rattle.encoding_text.specs.Decoding.{max_utf16_length, max_utf8_length, max_utf8_length_with_replacement}
 use Rattle.encoding_text.specs.declared.decoder.DecoderResult.{DecoderResult}
 use Rattle.encoding_text.specs.declared.decoder.DecoderResult.TheVariants.{InputEmpty, OutputFull, Malformed}
 use Rattle.encoding_definitions.proofs.EncodingLemmas.{length-utf16, flat_map-encode_utf8}

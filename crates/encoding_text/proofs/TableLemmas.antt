@@ -1,5 +1,6 @@
 -- The entries of the table by ranges of the index, and what the two formulas are by these.
-use Rattle.std.proofs.Common.{◌≡◌, ◌≢◌, ℕ, ◌+◌, ◌-◌, ◌*◌, ◌/◌, ◌%◌, ◌^◌, ◌<◌, ◌≤◌, ◌↔◌, ◌⊎◌, inl, inr, [], ◌∷◌, map, refl, sym, ap, ◌∙◌, arith, bit_and, bit_or, slice_index, if◌then◌else◌, nat_lt}
+use Rattle.std.proofs.Common.{◌≡◌, ◌≢◌, ℕ, ◌+◌, ◌-◌, ◌*◌, ◌/◌, ◌%◌, ◌^◌, ◌<◌, ◌≤◌, ◌↔◌, ◌⊎◌, inl, inr, [], ◌∷◌}
+use Rattle.std.proofs.Common.{map, refl, sym, ap, ◌∙◌, arith, bit_and, bit_or, slice_index, if◌then◌else◌, nat_lt}
 use Rattle.std.specs.Prelude.{IsTrue}
 use Rattle.std.specs.List.{range_with_len}
 use Rattle.std.proofs.lemmas.Nat.{le_or_l, or_comm, or_shifted, or_lt, and_le_l}
@@ -113,3 +114,6 @@ module _ (a b c d : ℕ) (h : a < 256) (s : b < 256) (t : c < 256) (u : d < 256)
 
   pub four_never : 0xF5 ≤ a → four_byte_formula UTF8_DATA.table a b c d ≢ 0x202
   four_never l e = or_two (common a b) (c / 64) (some_high a b l s) ((four_by_halves (omega arith)).0 e).0
+
+-- what both formulas say
+pub ruleset formulas = (three_is, three_never, four_is, four_never)

@@ -1,7 +1,8 @@
 -- Longest prefixes that may be the whole list: the ASCII prefix before the first other unit, and the bytes that the
 -- ISO-2022-JP decoder returns unchanged, by strides.
 use borrow.Rule.Slice.PartMut.{put_mid}
-use Rattle.std.proofs.Common.{ℕ, ◌+◌, ◌-◌, ◌<◌, ◌≤◌, inl, inr, List, ◌++◌, length, take, drop, slice_index, ap, eqb, sym, refl, ◌∙◌, arith, subst, Option, Some, None, ◌≡◌, ◌≢◌, Bool, true, false, ◌||◌, leb, w8, bit_or, replicate, length-drop, length-take-le, take-add}
+use Rattle.std.proofs.Common.{ℕ, ◌+◌, ◌-◌, ◌<◌, ◌≤◌, inl, inr, List, ◌++◌, length, take, drop, slice_index, ap, eqb, sym, refl, ◌∙◌, arith, subst}
+use Rattle.std.proofs.Common.{Option, Some, None, ◌≡◌, ◌≢◌, Bool, true, false, ◌||◌, leb, w8, bit_or, replicate, length-drop, length-take-le, take-add}
 use Rattle.std.proofs.lemmas.Str.{IsUtf8-from_ascii}
 use Rattle.std.specs.Prelude.{IsTrue, ◌↔◌}
 use Rattle.std.specs.Str.{IsAscii, IsUtf8}
@@ -193,6 +194,9 @@ prefix_of_first xs room (Some (unit, place)) l found = subst (λ ys. IsLongestPr
 pub written_of_room : (xs old new : List ℕ) (room : ℕ) → length xs ≤ room → WritesPrefix old new (length (take room xs)) (take (length (take room xs)) xs)
     → WritesPrefix old new (length xs) (take (length xs) xs)
 written_of_room xs old new room l w = subst (λ ys. WritesPrefix old new (length ys) (take (length ys) xs)) (take_all room xs l) w
+
+-- a copy as far as it fits
+pub ruleset copied_prefixes = (prefix_of_first, written_of_room)
 
 -- if the first other unit fits, it isn't ASCII
 pub other_at : (xs : List ℕ) (room unit place : ℕ) → IsFirstOther (take room xs) (Some (unit, place)) → place < length xs → place < room

@@ -114,7 +114,6 @@ pub fn ascii_valid_up_to(bytes: &[u8]) -> usize
     bytes.len()
 }
 
-/// Returns how many bytes of a stride come before the first that isn't ASCII, or is an escape or shift byte.
 #[inline(always)]
 fn iso_2022_jp_ascii_run(stride: &[u8; STRIDE]) -> usize
     ensures { IsLongestPrefix IsIso2022JpAscii stride.now result }

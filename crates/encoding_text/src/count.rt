@@ -44,8 +44,8 @@ pub fn utf16_count(src: &[u16]) -> usize
 /// Returns the length in bytes of `src` with U+FFFD for each malformed sequence: what `repair_slice` writes. `None` if
 /// the length exceeds `usize::MAX`.
 ///
-/// `src` may be any bytes. With a destination of this length, `repair_slice_partial` reads all of them. The length of the
-/// same text in UTF-16 is `utf16_length_from_utf8`. Encoding Standard, UTF-8 decode without BOM.
+/// `src` may be any bytes. With a destination of this length, `repair_slice_partial` reads all of them. The length of
+/// the same text in UTF-16 is `utf16_length_from_utf8`. Encoding Standard, UTF-8 decode without BOM.
 pub fn repaired_utf8_length(src: &[u8]) -> Option<usize>
     ensures length { (parts : List Part) × ArePartsOf src.now parts
         × SomeIff result (length (lossy_utf8 parts) ≤ usize.MAX) (length (lossy_utf8 parts)) }

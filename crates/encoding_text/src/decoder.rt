@@ -9,7 +9,7 @@ ghost use Rattle.encoding_text.specs.Decoding.{DecodeStepInto, BorrowedDecodeSte
 
 use crate::ascii::prefixes::is_short;
 use crate::utf_8::first::First;
-use crate::utf_8::{CodeUnit, valid_beyond_ascii};
+use crate::utf_8::{FromUtf8, valid_beyond_ascii};
 use encoding_kernels::lengths::SHORT;
 use encoding_kernels::scalar::decode_utf8_scalar;
 use encoding_kernels::simd::width::ASCII_END;
@@ -28,9 +28,9 @@ pub enum DecoderResult {
     /// The remaining space might be too small for the next character. Call again with the unread rest of the source and
     /// a larger or emptied destination.
     OutputFull,
-    /// A malformed sequence ends where this call stopped reading, and nothing is pending. The first number is the length
-    /// of the sequence, one to three bytes, some of which an earlier call may have read. The second is the number of
-    /// bytes read after the sequence, which is always 0.
+    /// A malformed sequence ends where this call stopped reading, and nothing is pending. The first number is the
+    /// length of the sequence, one to three bytes, some of which an earlier call may have read. The second is the
+    /// number of bytes read after the sequence, which is always 0.
     Malformed(u8, u8),
 }
 
@@ -61,7 +61,9 @@ impl Model for Utf8Decoder {
 }
 
 impl Utf8Decoder {
-    ghost use Rattle.encoding_text.specs.Decoding.{DecodeStepInto, BorrowedDecodeStep, IsReport, Suffices, SufficesReplacing, max_utf16_length, max_utf8_length, max_utf8_length_with_replacement};
+    ghost use Rattle.encoding_text.specs.Decoding.{DecodeStepInto, BorrowedDecodeStep, IsReport};
+    ghost use Rattle.encoding_text.specs.Decoding.{Suffices, SufficesReplacing, max_utf16_length};
+    ghost use Rattle.encoding_text.specs.Decoding.{max_utf8_length, max_utf8_length_with_replacement};
 
     /// Returns a decoder with nothing pending.
     pub fn new_inner() -> Utf8Decoder
@@ -112,8 +114,8 @@ impl Utf8Decoder {
     }
 
     /// Returns the length in bytes of a destination that is large enough for the next `byte_length` bytes, however they
-    /// are split into calls, if U+FFFD is written for each malformed sequence: three times the sum of `byte_length`, the
-    /// number of pending bytes and one. `None` if the length exceeds `usize::MAX`.
+    /// are split into calls, if U+FFFD is written for each malformed sequence: three times the sum of `byte_length`,
+    /// the number of pending bytes and one. `None` if the length exceeds `usize::MAX`.
     pub fn max_utf8_buffer_length(&self, byte_length: usize) -> Option<usize>
         ensures { SomeIff result
             (max_utf8_length_with_replacement byte_length (length self.now) ≤ usize.MAX)
@@ -173,10 +175,10 @@ impl Utf8Decoder {
         ensures progress { 0 < length src.now → 4 ≤ length dst.old
             → (0 < result.1) ⊎ IsReport result.0 }
 
-        // If `src` has at most `byte_length` bytes and `dst` has the length that `max_utf8_buffer_length(byte_length)` or
-        // `max_utf8_buffer_length_without_replacement(byte_length)` returned, the call doesn't return `OutputFull`. The
-        // space left is enough for the rest of the `byte_length` bytes. If `max_utf8_buffer_length` returned the length,
-        // the space left is enough even after the caller writes U+FFFD.
+        // If `src` has at most `byte_length` bytes and `dst` has the length that `max_utf8_buffer_length(byte_length)`
+        // or `max_utf8_buffer_length_without_replacement(byte_length)` returned, the call doesn't return `OutputFull`.
+        // The space left is enough for the rest of the `byte_length` bytes. If `max_utf8_buffer_length` returned the
+        // length, the space left is enough even after the caller writes U+FFFD.
         ensures suffices { Suffices max_utf8_length self.old src.now
             (length dst.old) result.0 result.1 result.2 self.new }
         ensures suffices_between_reports { Suffices max_utf8_length_with_replacement self.old
@@ -193,10 +195,10 @@ impl Utf8Decoder {
     /// that no bytes follow `src`.
     ///
     /// If nothing is pending and `src` starts with a character, the piece is the longest well-formed prefix, borrowed
-    /// from `src`. Otherwise, the pending bytes and `src` are read as one input, and the piece is the first character or
-    /// malformed sequence in it. If the input ends inside its first character, the result depends on `last`. If `last` is
-    /// set, the piece is `Malformed`. Otherwise, the bytes become pending and the piece is `InputEmpty`. If the input is
-    /// empty, the piece is `InputEmpty` too.
+    /// from `src`. Otherwise, the pending bytes and `src` are read as one input, and the piece is the first character
+    /// or malformed sequence in it. If the input ends inside its first character, the result depends on `last`. If
+    /// `last` is set, the piece is `Malformed`. Otherwise, the bytes become pending and the piece is `InputEmpty`. If
+    /// the input is empty, the piece is `InputEmpty` too.
     ///
     /// Call again with the unread rest of `src` until all is read. Nothing is allocated.
     #[inline(always)]
@@ -207,11 +209,9 @@ impl Utf8Decoder {
     }
 }
 
-/// Decodes `src` after the pending bytes. Returns what ended the call, how many bytes it read and how many code units
-/// it wrote.
 #[tactic(auto, using(std::proofs::lemmas::Bool::both_ways, crate::proofs::PendingLemmas::pending_incomplete))]
 #[inline(always)]
-pub(crate) fn decode<U: CodeUnit>(
+pub(crate) fn decode<U: FromUtf8>(
     pending: &mut Pending,
     src: &[u8],
     dst: &mut [U],
@@ -227,9 +227,8 @@ pub(crate) fn decode<U: CodeUnit>(
     }
 }
 
-/// Decodes `src` with nothing pending, and returns what `decode` does.
 #[inline(always)]
-fn decode_neutral<U: CodeUnit>(
+fn decode_neutral<U: FromUtf8>(
     pending: &mut Pending,
     src: &[u8],
     dst: &mut [U],
@@ -250,9 +249,8 @@ fn decode_neutral<U: CodeUnit>(
     (result, read + more, written)
 }
 
-/// Decodes `src` after an incomplete sequence, and returns what `decode` does.
 #[inline(never)]
-fn decode_pending<U: CodeUnit>(
+fn decode_pending<U: FromUtf8>(
     pending: &mut Pending,
     src: &[u8],
     dst: &mut [U],
@@ -284,7 +282,6 @@ fn decode_pending<U: CodeUnit>(
     }
 }
 
-/// Returns the piece for what ended a call without output.
 fn piece_at_end<'a>(end: DecoderResult) -> Piece<'a>
     requires { end ≢ DecoderResult.OutputFull }
     ensures all_read { end ≡ DecoderResult.InputEmpty → result ≡ Piece.InputEmpty }
@@ -298,7 +295,6 @@ fn piece_at_end<'a>(end: DecoderResult) -> Piece<'a>
     }
 }
 
-/// Decodes the start of `src` after the pending bytes. Returns the piece and how many bytes were read.
 #[tactic(auto, using(std::proofs::lemmas::Bool::both_ways, crate::proofs::PendingLemmas::pending_incomplete))]
 #[inline(always)]
 pub(crate) fn decode_borrowed<'a>(
@@ -315,7 +311,6 @@ pub(crate) fn decode_borrowed<'a>(
     }
 }
 
-/// Decodes the start of `src` with nothing pending. Returns the piece and how many bytes were read.
 #[inline(always)]
 fn borrow_prefix<'a>(pending: &mut Pending, src: &'a [u8], last: bool) -> (Piece<'a>, usize)
     requires neutral { pending.old ≡ [] }
@@ -344,7 +339,6 @@ fn borrow_prefix<'a>(pending: &mut Pending, src: &'a [u8], last: bool) -> (Piece
     (piece_at_end(end), read)
 }
 
-/// Decodes the start of `src` after an incomplete sequence. Returns the piece and how many bytes were read.
 #[inline(never)]
 fn resume_borrowed<'a>(pending: &mut Pending, src: &'a [u8], last: bool) -> (Piece<'a>, usize)
     requires unfinished { IsIncomplete pending.old }

@@ -3,6 +3,7 @@
 #![tactic(auto)]
 
 pub mod ascii;
+pub mod code_unit;
 pub mod count;
 pub mod decoder;
 pub mod mem;

@@ -1,7 +1,8 @@
-//! UTF-16BE and UTF-16LE: Unicode Standard, section 3.10, and Encoding Standard, sections 14.2 to 14.4. Each code unit is
-//! two bytes. A call leaves the rest of `dst` unchanged.
+//! UTF-16BE and UTF-16LE: Unicode Standard, section 3.10, and Encoding Standard, sections 14.2 to 14.4. Each code unit
+//! is two bytes. A call leaves the rest of `dst` unchanged.
 
-ghost use Rattle.std.specs.Prelude.{◌≡◌, ℕ, ◌+◌, ◌*◌, ◌/◌, ◌++◌, ◌<◌, ◌≤◌, true, List, length, min, take, drop, encode_utf8};
+ghost use Rattle.std.specs.Prelude.{◌≡◌, ℕ, ◌+◌, ◌*◌, ◌/◌, ◌++◌, ◌<◌, ◌≤◌, true};
+ghost use Rattle.std.specs.Prelude.{List, length, min, take, drop, encode_utf8};
 ghost use Rattle.std.specs.Char.{IsScalar};
 ghost use Rattle.std.specs.Char.Escape.{encode_utf16};
 ghost use Rattle.std.specs.List.{flat_map};
@@ -22,7 +23,6 @@ pub enum ByteOrder {
     BigEndian,
 }
 
-/// Returns the code unit of two bytes.
 #[inline(always)]
 fn decode_unit(order: ByteOrder, bytes: [u8; 2]) -> u16
     ensures { unit_bytes order result ≡ bytes }
@@ -33,7 +33,6 @@ fn decode_unit(order: ByteOrder, bytes: [u8; 2]) -> u16
     }
 }
 
-/// Returns the two bytes of a code unit.
 #[inline(always)]
 fn encode_unit(order: ByteOrder, unit: u16) -> [u8; 2]
     ensures { result ≡ unit_bytes order unit }
@@ -77,9 +76,10 @@ pub fn copy_utf16_bytes_to_ascii(order: ByteOrder, src: &[u8], dst: &mut [u8]) -
     }
 }
 
-/// Converts the first characters of UTF-16LE or UTF-16BE to UTF-8, up to the first that doesn't fit into `dst`, an unpaired surrogate,
-/// or a character that the end of `src` cuts: a high surrogate or half a code unit. Returns how many bytes it read and how many
-/// bytes it wrote. The rest of `dst` is unchanged. Encoding Standard, section 14.2, shared UTF-16 decoder.
+/// Converts the first characters of UTF-16LE or UTF-16BE to UTF-8, up to the first that doesn't fit into `dst`, an
+/// unpaired surrogate, or a character that the end of `src` cuts: a high surrogate or half a code unit. Returns how
+/// many bytes it read and how many bytes it wrote. The rest of `dst` is unchanged. Encoding Standard, section 14.2,
+/// shared UTF-16 decoder.
 pub fn convert_utf16_bytes_to_utf8_up_to_invalid(
     order: ByteOrder,
     src: &[u8],

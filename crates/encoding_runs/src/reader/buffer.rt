@@ -1,4 +1,4 @@
-//! A buffer of fixed length: what was put into it, without what was consumed.
+//! A buffer of fixed length: what was put into it, without what was consumed. Nothing is moved until it is empty.
 ghost use Rattle.std.specs.Prelude.{◌≡◌, ◌<◌, ◌≤◌, [], List, ◌++◌, length, take, drop, min, OnOk};
 ghost use Rattle.std.specs.Io.KnownBytes.{Consumes, IsAtEnd};
 
@@ -25,7 +25,6 @@ impl<T: Copy, const N: usize> Model for Buffer<T, N> {
 }
 
 impl<T: Copy, const N: usize> Buffer<T, N> {
-    /// Creates an empty buffer, filled with `unit`.
     pub(super) fn new(unit: T) -> Buffer<T, N>
         ensures { result ≡ [] }
     {
@@ -36,7 +35,6 @@ impl<T: Copy, const N: usize> Buffer<T, N> {
         }
     }
 
-    /// Returns its contents.
     pub(super) fn unread(&self) -> &[T]
         ensures value { result.now ≡ self.now }
         ensures fits { length result.now ≤ N }
@@ -45,7 +43,6 @@ impl<T: Copy, const N: usize> Buffer<T, N> {
         &units[self.begin..self.end]
     }
 
-    /// Removes its first `count` units.
     pub(super) fn consume(&mut self, count: usize)
         requires { count ≤ length self.old }
         ensures { self.new ≡ drop count self.old }
@@ -53,7 +50,6 @@ impl<T: Copy, const N: usize> Buffer<T, N> {
         self.begin += count;
     }
 
-    /// Replaces its contents with these units.
     pub(super) fn hold(&mut self, units: &[T])
         requires { length units.now ≤ N }
         ensures { self.new ≡ units.now }
@@ -63,10 +59,9 @@ impl<T: Copy, const N: usize> Buffer<T, N> {
         self.end = units.len();
     }
 
-    /// Moves as much of its contents as fits to the start of `dst`, and returns the number of units.
     pub(super) fn give(&mut self, dst: &mut [T]) -> usize
         ensures copied_length { result ≡ min (length dst.old) (length self.old) }
-        ensures dst_length { length dst.new ≡ length dst.old }
+        ensures same_length { length dst.new ≡ length dst.old }
         ensures bytes { self.old ≡ take result dst.new ++ self.new }
     {
         let unread = self.unread();
@@ -78,10 +73,9 @@ impl<T: Copy, const N: usize> Buffer<T, N> {
 }
 
 impl<const N: usize> Buffer<u8, N> {
-    /// Reads once, if it is empty.
     pub(super) fn fill<R: Read>(&mut self, reader: &mut R) -> io::Result<()>
         requires empty { self.old ≡ [] }
-        requires dst_length { 0 < N }
+        requires capacity { 0 < N }
         ensures bytes { Consumes (R.remaining reader.old) (R.remaining reader.new) self.new }
         ensures end { OnOk result (self.new ≡ [] → IsAtEnd (R.remaining reader.new)) }
     {

@@ -1,4 +1,4 @@
-//! A reader of text in UTF-16.
+//! A reader of text in UTF-16, over the reader of UTF-8. It keeps half a pair if only one code unit fits.
 ghost use Rattle.std.specs.Prelude.{◌≡◌, ◌≢◌, ◌<◌, ◌≤◌, [], length, take, IfOk, OnOk, OnErr, option_map};
 ghost use Rattle.std.specs.Char.Escape.{encode_utf16};
 ghost use Rattle.std.specs.Io.{ReadsAtMost};
@@ -46,7 +46,6 @@ impl<R: Read> Utf16Reader<R> {
         }
     }
 
-    /// Reads text into `bytes`, whole characters, and converts it. Returns 0 at the end.
     fn decode(&mut self, bytes: &mut [u8], dst: &mut [u16]) -> io::Result<usize>
         requires bytes { 4 ≤ length bytes.old }
         requires dst_length { length bytes.old ≤ length dst.old }
@@ -63,7 +62,6 @@ impl<R: Read> Utf16Reader<R> {
         Ok(convert_str_to_utf16(text, dst))
     }
 
-    /// Decodes one character, which is kept, or reaches the end.
     fn hold(&mut self) -> io::Result<()>
         requires held { self.old.held ≡ [] }
         ensures units { Keeps (units_left R.remaining self.old) (units_left R.remaining self.new) }

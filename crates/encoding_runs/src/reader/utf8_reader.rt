@@ -1,5 +1,7 @@
-//! A reader of text: the bytes of another reader, as well-formed UTF-8.
-ghost use Rattle.std.specs.Prelude.{◌≡◌, ◌≢◌, ◌↔◌, ◌<◌, ◌≤◌, [], length, take, true, false, IfOk, OnOk, OnErr, IsTrue, option_map};
+//! A reader of text: the bytes of another reader, as well-formed UTF-8. It decodes straight into the destination,
+//! unless a character may not fit.
+ghost use Rattle.std.specs.Prelude.{◌≡◌, ◌≢◌, ◌↔◌, ◌<◌, ◌≤◌, [], length, take, true};
+ghost use Rattle.std.specs.Prelude.{false, IfOk, OnOk, OnErr, IsTrue, option_map};
 ghost use Rattle.std.specs.Io.{ReadsAtMost};
 ghost use Rattle.std.specs.Io.KnownBytes.{Keeps, ReadConsumes, IsAtEnd};
 ghost use Rattle.std.specs.Str.{IsUtf8};
@@ -10,6 +12,7 @@ ghost use Rattle.encoding_runs.specs.Steps.{text_of};
 use crate::laws::{law_parts, law_sequences};
 use crate::reader::buffer::Buffer;
 use crate::repair::repair_block;
+use encoding_kernels::scalar::REPLACEMENT_UTF8;
 use encoding_text::decoder::{Piece, Utf8Decoder};
 use std::io;
 use std::io::Read;
@@ -20,10 +23,6 @@ const BLOCK: usize = 1024;
 /// With this many bytes to write into, a call of `repair_block` makes progress.
 const BLOCK_LENGTH: usize = 7;
 
-/// The UTF-8 of U+FFFD, which replaces a malformed sequence.
-const REPLACEMENT_UTF8: [u8; 3] = [0xEF, 0xBF, 0xBD];
-
-/// Keeps the text of a piece: U+FFFD for a malformed sequence.
 fn hold_piece(held: &mut Buffer<u8, 4>, piece: Piece<'_>)
     requires { length (text_of piece) ≤ 4 }
     ensures { held.new ≡ text_of piece.entry }
@@ -66,7 +65,7 @@ impl<R: Read> Utf8Reader<R> {
         }
     }
 
-    /// Reads if all that was read is decoded, and returns whether that reached the end.
+    /// Reads only if all that was read is decoded.
     fn fill(&mut self) -> io::Result<bool>
         ensures text { Keeps (text_left R.remaining self.old) (text_left R.remaining self.new) }
         ensures same { (self.new.decoder ≡ self.old.decoder) × (self.new.held ≡ self.old.held) }
@@ -79,7 +78,6 @@ impl<R: Read> Utf8Reader<R> {
         Ok(self.block.unread().is_empty())
     }
 
-    /// Decodes into `dst` until there is some text, in whole characters, or the end.
     fn decode(&mut self, dst: &mut [u8]) -> io::Result<usize>
         requires dst_length { 7 ≤ length dst.old }
         requires held { self.old.held ≡ [] }
@@ -100,7 +98,6 @@ impl<R: Read> Utf8Reader<R> {
         }
     }
 
-    /// Decodes the next byte, or what is pending at the end. The result, a character or nothing, is kept.
     fn decode_byte(&mut self, last: bool)
         requires held { self.old.held ≡ [] }
         requires ended { IsTrue last ↔ (self.old.block ≡ []) }
@@ -120,7 +117,6 @@ impl<R: Read> Utf8Reader<R> {
         self.block.consume(read);
     }
 
-    /// Decodes one character, which is kept, or reaches the end.
     fn hold(&mut self) -> io::Result<()>
         requires held { self.old.held ≡ [] }
         ensures text { Keeps (text_left R.remaining self.old) (text_left R.remaining self.new) }
@@ -137,7 +133,6 @@ impl<R: Read> Utf8Reader<R> {
         }
     }
 
-    /// Decodes one character into `dst`, and returns its length: 0 at the end.
     pub(super) fn character(&mut self, dst: &mut [u8]) -> io::Result<usize>
         requires dst_length { 4 ≤ length dst.old }
         requires held { self.old.held ≡ [] }

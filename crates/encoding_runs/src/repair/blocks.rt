@@ -3,7 +3,7 @@ ghost use Rattle.std.specs.Prelude.{ℕ, List, length};
 ghost use Rattle.encoding_definitions.specs.Prefixes.{WritesPrefix};
 ghost use Rattle.encoding_runs.specs.Blocks.{IsBlockRepair};
 
-use encoding_kernels::scalar::write_scalar;
+use encoding_kernels::scalar::{REPLACEMENT_CHARACTER, write_scalar};
 use encoding_text::decoder::{DecoderResult, Utf8Decoder};
 
 /// What one call of [`repair_block`] did.
@@ -18,9 +18,6 @@ pub struct RepairedBlock {
     /// Whether the whole block was read and, if it was the last, nothing is pending. If false, more space is needed.
     pub finished: bool,
 }
-
-/// The scalar value that replaces a malformed sequence.
-const REPLACEMENT_CHARACTER: u32 = 0xFFFD;
 
 /// The length of U+FFFD in UTF-8, in bytes.
 const REPLACEMENT_LENGTH: usize = 3;
@@ -44,7 +41,7 @@ pub fn repair_block(
         (length dst.old) last result result.read out decoder.new }
 {
     // Without a call of the decoder no other clause says that the pending bytes are none or an incomplete sequence.
-    let _neutral = decoder.in_neutral_state();
+    prove!(decoder.pending().1 <= 3);
     let mut block = RepairedBlock {
         read: 0,
         written: 0,

@@ -1,11 +1,14 @@
-//! The engine: writes text unchanged, and U+FFFD for each malformed sequence.
-ghost use Rattle.std.specs.Prelude.{◌≡◌, ◌≢◌, ℕ, ◌<◌, ◌≤◌, ◌↔◌, Bool, true, false, List, [], ◌++◌, length, take, IfOk, IfErr, IsTrue};
+//! The engine: writes text unchanged, and U+FFFD for each malformed sequence. A round reads once, and writes all final
+//! parts before the next read. At the end it writes what is pending.
+ghost use Rattle.std.specs.Prelude.{◌≡◌, ◌≢◌, ℕ, ◌<◌, ◌≤◌, ◌↔◌, Bool, true, false};
+ghost use Rattle.std.specs.Prelude.{List, [], ◌++◌, length, take, IfOk, IfErr, IsTrue};
 ghost use Rattle.std.specs.Io.KnownBytes.{Appends, Keeps};
 ghost use Rattle.encoding_definitions.specs.Sequence.{IsPending};
 ghost use Rattle.encoding_runs.specs.Repairs.{RepairsAll, RepairsProperPrefix, RepairsFinal, Stops, WritesRepaired};
 ghost use Rattle.encoding_runs.specs.Steps.{ReadsRound, StopsInParts, WritesParts, malformed_in, text_of};
 
 use super::streams::{Sink, Source};
+use encoding_kernels::scalar::REPLACEMENT_UTF8;
 use encoding_text::decoder::{Piece, Utf8Decoder};
 
 /// Why a repair stopped.
@@ -29,10 +32,7 @@ pub struct Repaired {
 /// The most bytes of one read.
 const ROUND: usize = 1024;
 
-/// U+FFFD in UTF-8.
-const REPLACEMENT_UTF8: [u8; 3] = [0xEF, 0xBF, 0xBD];
-
-/// Writes all bytes, each once, with as many writes as needed. Out of line: most writers take all bytes at once.
+/// Out of line: most writers take all bytes at once.
 #[inline(never)]
 fn write_by_parts<W: Sink>(writer: &mut W, bytes: &[u8]) -> Result<(), RepairFault>
     ensures ok { IfOk result (λ _. Appends (W.contents writer.old) (W.contents writer.new) bytes.now
@@ -53,7 +53,6 @@ fn write_by_parts<W: Sink>(writer: &mut W, bytes: &[u8]) -> Result<(), RepairFau
     Ok(())
 }
 
-/// Writes all bytes, each once, with as many writes as needed.
 #[inline(always)]
 fn write_whole<W: Sink>(writer: &mut W, bytes: &[u8]) -> Result<(), RepairFault>
     ensures ok { IfOk result (λ _. Appends (W.contents writer.old) (W.contents writer.new) bytes.now
@@ -76,7 +75,6 @@ fn write_whole<W: Sink>(writer: &mut W, bytes: &[u8]) -> Result<(), RepairFault>
     Ok(())
 }
 
-/// Writes text unchanged, a character, or U+FFFD for a malformed sequence. Returns the number of malformed sequences.
 #[inline(always)]
 fn write_piece<W: Sink>(writer: &mut W, piece: Piece<'_>) -> Result<u64, RepairFault>
     ensures ok { IfOk result (λ replaced. (replaced ≡ malformed_in piece.entry)
@@ -103,8 +101,6 @@ fn write_piece<W: Sink>(writer: &mut W, piece: Piece<'_>) -> Result<u64, RepairF
     Ok(0)
 }
 
-/// Decodes all of `src` after the pending bytes, and writes the result. `last` says that no byte follows. Returns the
-/// number of malformed sequences.
 fn write_parts<W: Sink>(
     decoder: &mut Utf8Decoder,
     src: &[u8],
@@ -156,8 +152,6 @@ pub fn repair_slice<W: Sink>(src: &[u8], writer: &mut W) -> Result<u64, RepairFa
     write_parts(&mut decoder, src, true, writer)
 }
 
-/// Runs one round: reads once into the buffer, and writes the result of the pending bytes and of these. At the end it
-/// writes what is pending. Returns how much it read, and the number of malformed sequences.
 fn repair_round<R: Source, W: Sink>(
     decoder: &mut Utf8Decoder,
     reader: &mut R,

@@ -1,4 +1,4 @@
-//! Runs of a decoder. The rest of each destination is unchanged.
+//! Runs of a decoder: one call for each turn. The rest of each destination is unchanged.
 ghost use Rattle.std.specs.Prelude.{ℕ, ◌+◌, ◌-◌, ◌<◌, ◌≤◌, List, length, take, encode_utf8};
 ghost use Rattle.std.specs.Char.{IsScalar};
 ghost use Rattle.std.specs.Char.Escape.{encode_utf16};
@@ -8,6 +8,7 @@ ghost use Rattle.encoding_runs.specs.Runs.{room_of, is_marked_last, Completes, D
 ghost use Rattle.encoding_runs.specs.Steps.{report_of};
 
 use super::turns::Turn;
+use encoding_text::code_unit::CodeUnit;
 use encoding_text::decoder::{DecoderResult, Utf8Decoder};
 
 /// A malformed sequence that a run reports.
@@ -33,31 +34,19 @@ pub struct Outcome {
     pub result: Option<DecoderResult>,
 }
 
-/// A code unit that a decoder writes: of UTF-16, or a byte of UTF-8.
-trait CodeUnit: Copy {
-    // a scalar value in these code units
-    ghost encode: { ℕ → List Self };
-
-    // the most code units of a character
-    ghost need: { ℕ };
-
-    /// Decodes into these code units.
+/// Code units that a decoder writes.
+trait Decoded: CodeUnit {
     fn decode(
         decoder: &mut Utf8Decoder,
         src: &[u8],
         dst: &mut [Self],
         last: bool,
     ) -> (DecoderResult, usize, usize)
-        ensures call { DecodeStepInto encode need decoder.old src.now dst.old dst.new last
-            result.0 result.1 result.2
-            decoder.new };
+        ensures call { DecodeStepInto Self.encode Self.MAX_UNITS decoder.old src.now dst.old dst.new
+            last result.0 result.1 result.2 decoder.new };
 }
 
-impl CodeUnit for u16 {
-    ghost encode = { encode_utf16 };
-
-    ghost need = { 2 };
-
+impl Decoded for u16 {
     #[inline]
     fn decode(
         decoder: &mut Utf8Decoder,
@@ -69,11 +58,7 @@ impl CodeUnit for u16 {
     }
 }
 
-impl CodeUnit for u8 {
-    ghost encode = { encode_utf8 };
-
-    ghost need = { 4 };
-
+impl Decoded for u8 {
     #[inline]
     fn decode(
         decoder: &mut Utf8Decoder,
@@ -85,16 +70,14 @@ impl CodeUnit for u8 {
     }
 }
 
-/// Makes the call of a turn on the unread bytes, into the rest of a destination. Returns its result, the number of
-/// bytes read and the number of code units written.
-fn make_call<U: CodeUnit>(
+fn make_call<U: Decoded>(
     decoder: &mut Utf8Decoder,
     turn: &Turn,
     unread: &[u8],
     left: &mut [U],
 ) -> (DecoderResult, usize, usize)
     ensures call { (out : List U) × WritesPrefix left.old left.new result.2 out
-        × DecodeStep U.encode U.need decoder.old (take turn.now.take unread.now)
+        × DecodeStep U.encode U.MAX_UNITS decoder.old (take turn.now.take unread.now)
         (room_of turn.now (length left.old))
         (is_marked_last turn.now (length unread.now)) result.0 result.1 out decoder.new }
 {
@@ -108,7 +91,6 @@ fn make_call<U: CodeUnit>(
     )
 }
 
-/// Writes the report of a call's result, if it is one, at index 0, and returns the number of reports written.
 fn write_report(answer: &DecoderResult, place: usize, reports: &mut [Report]) -> usize
     requires reports { 0 < length reports.old }
     ensures { WritesPrefix reports.old reports.new result (report_of answer.now place) }
@@ -122,9 +104,7 @@ fn write_report(answer: &DecoderResult, place: usize, reports: &mut [Report]) ->
     }
 }
 
-/// Makes one call for each turn, and returns the totals. A character has at least one code unit, and no more code units
-/// than bytes of UTF-8.
-fn run<U: CodeUnit>(
+fn run<U: Decoded>(
     decoder: &mut Utf8Decoder,
     src: &[u8],
     turns: &[Turn],
@@ -132,17 +112,17 @@ fn run<U: CodeUnit>(
     reports: &mut [Report],
 ) -> Outcome
     requires places { length turns.now ≤ length reports.old }
-    requires not_empty { 0 < U.need }
+    requires not_empty { 0 < U.MAX_UNITS }
     requires short { (c : ℕ) → IsScalar c → length (U.encode c) ≤ length (encode_utf8 c) }
-    ensures delivers { Delivers U.encode U.need decoder.old src.now turns.now dst.old dst.new
+    ensures delivers { Delivers U.encode U.MAX_UNITS decoder.old src.now turns.now dst.old dst.new
         reports.old reports.new
         result decoder.new }
     ensures completes { Completes DecoderResult.InputEmpty
-        (λ n pending. n + (U.need - 1) + pending) U.need
+        (λ n pending. n + (U.MAX_UNITS - 1) + pending) U.MAX_UNITS
         decoder.old src.now turns.now (length dst.old) result.result }
 {
     // Without turns no other clause says that the pending bytes are none or an incomplete sequence.
-    let _neutral = decoder.in_neutral_state();
+    prove!(decoder.pending().1 <= 3);
     let mut outcome = Outcome {
         read: 0,
         written: 0,

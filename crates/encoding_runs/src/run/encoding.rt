@@ -1,4 +1,4 @@
-//! Runs of an encoder.
+//! Runs of an encoder: one call for each turn. The rest of the destination is unchanged.
 ghost use Rattle.std.specs.Prelude.{◌+◌, ◌*◌, ◌≤◌, length, take};
 ghost use Rattle.encoding_definitions.specs.Prefixes.{WritesPrefix};
 ghost use Rattle.encoding_text.specs.Encoding.{EncodeStep};
@@ -18,8 +18,6 @@ pub struct EncodeOutcome {
     pub result: Option<EncoderResult>,
 }
 
-/// Makes the call of a turn on the unread code units, into the rest of a destination. Returns its result, the number of
-/// code units read and the number of bytes written.
 fn encode_turn(
     encoder: &mut Utf8Encoder,
     turn: &Turn,
@@ -64,7 +62,8 @@ pub fn run_from_utf16(
         (length dst.old) result.result }
 {
     // Without turns no other contract says that at most one surrogate is pending.
-    let _room = encoder.max_buffer_length_from_utf16_without_replacement(0);
+    let room = encoder.max_buffer_length_from_utf16_without_replacement(0);
+    prove!(room.is_some());
     let mut outcome = EncodeOutcome {
         read: 0,
         written: 0,

@@ -16,21 +16,18 @@ pub struct Turn {
 }
 
 impl Turn {
-    /// Returns the length of its piece of `unread` code units.
     pub(super) fn piece_length(&self, unread: usize) -> usize
         ensures { result ≡ min self.now.take unread }
     {
         self.take.min(unread)
     }
 
-    /// Returns its output space of the `left` code units of the destination.
     pub(super) fn room_of(&self, left: usize) -> usize
         ensures { result ≡ room_of self.now left }
     {
         self.room.min(left)
     }
 
-    /// Returns whether its call is marked last with `unread` code units unread.
     pub(super) fn is_marked_last(&self, unread: usize) -> bool
         ensures { result ≡ is_marked_last self.now unread }
     {

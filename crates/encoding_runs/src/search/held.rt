@@ -19,7 +19,6 @@ impl Model for Held {
 }
 
 impl Held {
-    /// Returns no bytes.
     pub(crate) fn none() -> Held
         ensures { result ≡ [] }
     {
@@ -29,7 +28,6 @@ impl Held {
         }
     }
 
-    /// Returns how many bytes these are.
     pub(crate) fn len(&self) -> usize
         ensures length { result ≡ length self.now }
         ensures within { result ≤ 3 }
@@ -37,14 +35,12 @@ impl Held {
         self.count
     }
 
-    /// Returns an array that starts with the bytes.
     pub(crate) fn bytes(&self) -> [u8; 3]
         ensures { take (length self.now) result ≡ self.now }
     {
         self.bytes
     }
 
-    /// Appends bytes.
     pub(crate) fn push(&mut self, more: &[u8])
         requires fits { length self.old + length more.now ≤ 3 }
         ensures { self.new ≡ self.old ++ more.now }

@@ -1,5 +1,6 @@
-//! ASCII prefixes as conversions and validation begin with them. Whole strides are most of a long one. Before these, two
-//! vectors test a short text, and after them the last vector overlaps the one before.
+//! ASCII prefixes as conversions and validation begin with them. Two vectors test a short text. A longer one is taken
+//! by whole blocks, of which the last may overlap the one before it, so that few bytes are left to a loop. One mask
+//! finds the end in a block, so that no branch depends on the text.
 
 ghost use Rattle.std.specs.Prelude.{◌≡◌, ◌+◌, ◌*◌, ◌<◌, ◌≤◌, ◌↔◌, ◌⊎◌, IsTrue, take, length};
 ghost use Rattle.std.specs.Str.{IsAscii, IsUtf8};
@@ -22,7 +23,6 @@ use encoding_kernels::simd::width::{
     ASCII_END, BASIC_LATIN_END, BLOCK, FOUR, FOUR_BLOCKS, STRIDE, TWO_BLOCKS, UNIT_BLOCK,
 };
 
-/// Returns whether at most 128 bytes are ASCII.
 #[inline(always)]
 pub(crate) fn is_short(bytes: &[u8]) -> bool
     requires { length bytes.now ≤ 128 }
@@ -32,7 +32,6 @@ pub(crate) fn is_short(bytes: &[u8]) -> bool
     pass_short::<TWO_BLOCKS, _>(&BytesBelow { bytes, bound }, bytes.len())
 }
 
-/// Copies at most `LONGEST` bytes if all are ASCII, and returns whether they are.
 #[inline(always)]
 pub(crate) fn write_short_ascii<const LONGEST: usize>(src: &[u8], dst: &mut [u8]) -> bool
     requires short { (length src.now ≤ LONGEST) × (LONGEST ≤ 128) }
@@ -46,7 +45,6 @@ pub(crate) fn write_short_ascii<const LONGEST: usize>(src: &[u8], dst: &mut [u8]
     write_short::<LONGEST, _, _>(&ascii, src.len(), dst)
 }
 
-/// Copies at most `LONGEST` bytes, each as a UTF-16 code unit, if all are ASCII, and returns whether they are.
 #[inline(always)]
 pub(crate) fn write_short_ascii_as_units<const LONGEST: usize>(src: &[u8], dst: &mut [u16]) -> bool
     requires short { (length src.now ≤ LONGEST) × (LONGEST ≤ 128) }
@@ -60,7 +58,6 @@ pub(crate) fn write_short_ascii_as_units<const LONGEST: usize>(src: &[u8], dst: 
     write_short::<LONGEST, _, _>(&ascii, src.len(), dst)
 }
 
-/// Copies at most `LONGEST` UTF-16 code units, each as a byte, if all are ASCII, and returns whether they are.
 #[inline(always)]
 pub(crate) fn write_short_ascii_as_bytes<const LONGEST: usize>(src: &[u16], dst: &mut [u8]) -> bool
     requires short { (length src.now ≤ LONGEST) × (LONGEST ≤ 128) }
@@ -74,11 +71,8 @@ pub(crate) fn write_short_ascii_as_bytes<const LONGEST: usize>(src: &[u16], dst:
     write_short::<LONGEST, _, _>(&ascii, src.len(), dst)
 }
 
-/// Returns the length of the longest ASCII prefix, as `ascii_valid_up_to` does, by the length of the bytes. The first `KNOWN` bytes
-/// are ASCII, none or a block. `ALL` says that nothing else is expected: two vectors test at most 128 bytes at once.
-///
-/// One mask finds the end in the first block, without a branch that depends on the text: between other characters most prefixes
-/// end there. The last block may overlap the one before it, so no byte is left to a loop.
+/// `ALL` says that nothing but ASCII is expected: two vectors test at most 128 bytes at once. Otherwise the first block
+/// comes first: between other characters most prefixes end there.
 #[tactic(auto, using(encoding_kernels::proofs::ScanLemmas::prefix_before))]
 #[inline(always)]
 pub(crate) fn ascii_valid_up_to_by_length<const KNOWN: usize, const ALL: bool>(
@@ -196,8 +190,7 @@ pub fn ascii_to_basic_latin(src: &[u8], dst: &mut [u16]) -> Option<(u8, usize)>
     None
 }
 
-/// Copies the ASCII prefix by blocks, and returns its length, or 0 if `dst` is shorter than `src`. One mask finds its end in the
-/// last block, which may overlap the one before it, without a branch that depends on the text.
+/// Copies nothing if `dst` is shorter than `src`.
 #[inline(always)]
 pub(crate) fn copy_blocks(src: &[u8], dst: &mut [u8]) -> usize
     requires src_length { 64 ≤ length src.now }
@@ -224,7 +217,6 @@ pub(crate) fn copy_blocks(src: &[u8], dst: &mut [u8]) -> usize
     place + run
 }
 
-/// Returns the length of the whole strides, or all of a shorter length.
 #[inline(always)]
 fn length_of_strides(length: usize) -> usize
     ensures within { (result ≤ length) × (length < result + 16) }
@@ -237,9 +229,7 @@ fn length_of_strides(length: usize) -> usize
     }
 }
 
-/// Copies the longest ASCII prefix, up to the shorter of the two lengths. Returns its length. Two vectors copy at most 128 bytes
-/// if all are ASCII. The last stride may overlap the one before it, so a loop is left only fewer than sixteen bytes. Out of line,
-/// so that the loops over blocks keep their constants in registers.
+/// Out of line, so that the loops over blocks keep their constants in registers.
 #[inline(never)]
 pub(crate) fn copy_ascii_prefix(src: &[u8], dst: &mut [u8]) -> usize
     ensures prefix { IsLongestPrefix IsAscii (take (length dst.old) src.now) result }
@@ -262,8 +252,7 @@ pub(crate) fn copy_ascii_prefix(src: &[u8], dst: &mut [u8]) -> usize
     last + run
 }
 
-/// Copies blocks of ASCII from the start, each byte as a UTF-16 code unit, and returns how many bytes these are: all if all are
-/// ASCII, since the last block may overlap the one before it. Inline, for a call outside loops on more than 64 bytes.
+/// Inline, for a call outside of loops.
 #[inline(always)]
 pub(crate) fn unpack_blocks(src: &[u8], dst: &mut [u16]) -> usize
     requires dst_length { length src.now ≤ length dst.old }
@@ -288,8 +277,6 @@ pub(crate) fn unpack_blocks(src: &[u8], dst: &mut [u16]) -> usize
     at
 }
 
-/// Copies blocks of 64 ASCII code units from the start, each unit as a byte, and returns how many units these are: all if all are ASCII,
-/// since the last block may overlap the one before it. Inline, as `unpack_blocks` is.
 #[inline(always)]
 pub(crate) fn pack_blocks(src: &[u16], dst: &mut [u8]) -> usize
     requires dst_length { length src.now ≤ length dst.old }
@@ -313,9 +300,7 @@ pub(crate) fn pack_blocks(src: &[u16], dst: &mut [u8]) -> usize
     at
 }
 
-/// Copies the longest ASCII prefix, each byte as a UTF-16 code unit, and returns its length. It ends in the first 64 bytes, if there
-/// are that many: one mask has its end, and two vectors copy what precedes that. Of fewer, the last stride may overlap the one
-/// before it, so a loop is left only fewer than sixteen. Out of line, so that callers inline `unpack_blocks`.
+/// Out of line, so that callers inline `unpack_blocks`.
 #[inline(never)]
 pub(crate) fn unpack_rest(src: &[u8], dst: &mut [u16]) -> usize
     requires dst_length { length src.now ≤ length dst.old }
@@ -341,7 +326,6 @@ pub(crate) fn unpack_rest(src: &[u8], dst: &mut [u16]) -> usize
     last + run
 }
 
-/// Copies the longest ASCII prefix, each byte as a UTF-16 code unit, and returns its length. Inline, as `unpack_blocks` is.
 #[inline(always)]
 pub(crate) fn unpack_ascii_prefix(src: &[u8], dst: &mut [u16]) -> usize
     requires dst_length { length src.now ≤ length dst.old }
@@ -355,9 +339,7 @@ pub(crate) fn unpack_ascii_prefix(src: &[u8], dst: &mut [u16]) -> usize
     at + unpack_rest(&src[at..], &mut dst[at..])
 }
 
-/// Copies the longest ASCII prefix, each byte as a UTF-16 code unit, up to the shorter of the two lengths. Returns its
-/// length. Out of line, so that a loop that calls it needs few registers. Such a loop tests the first byte before: a store of no
-/// bytes would delay a load of the units that are written next.
+/// Test the first byte before calling this in a loop: even an empty copy stores, and delays the next load.
 #[inline(never)]
 pub(crate) fn copy_to_basic_latin(src: &[u8], dst: &mut [u16]) -> usize
     ensures prefix { IsLongestPrefix IsAscii (take (length dst.old) src.now) result }
@@ -370,11 +352,8 @@ pub(crate) fn copy_to_basic_latin(src: &[u8], dst: &mut [u16]) -> usize
     unpack_ascii_prefix(fitting, dst)
 }
 
-/// Copies an ASCII prefix of a text, each byte as a UTF-16 code unit, and returns its length. `dst` is at least as long
-/// as `src`. Units that the UTF-16 of the rest of the text overwrites may have changed too.
-///
-/// A block or a stride is stored whole, even if ASCII ends in it: to keep what follows, it would have to load what was
-/// just stored. One mask finds the end in a block, without a branch that depends on the text.
+/// Stores whole blocks and strides, even if ASCII ends in one: to keep what follows, it would have to load what was
+/// just stored.
 #[inline(always)]
 pub(crate) fn copy_prefix_of_text(src: &[u8], dst: &mut [u16]) -> usize
     requires dst_length { length src.now ≤ length dst.old }

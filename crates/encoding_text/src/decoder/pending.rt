@@ -1,4 +1,5 @@
-//! The pending bytes of a decoder.
+//! The pending bytes of a decoder, and how a call ends that reads no further character. Most calls find nothing
+//! pending.
 ghost use Rattle.std.specs.Prelude.{◌≡◌, ◌≢◌, ℕ, ◌<◌, ◌≤◌, ◌↔◌, Bool, false, List, [], length, take, drop, IsTrue};
 ghost use Rattle.encoding_definitions.specs.Sequence.{IsIncomplete, IsPending};
 ghost use Rattle.encoding_definitions.specs.Parts.{BeginsWithNoCharacter};
@@ -38,7 +39,6 @@ impl Pending {
     ghost use Rattle.encoding_text.specs.Steps.{Resumes};
     ghost use Rattle.encoding_text.specs.Steps.{IsResultAtEnd, IsResultWithoutCharacter};
 
-    /// Returns no bytes.
     pub(crate) fn none() -> Pending
         ensures { result ≡ [] }
     {
@@ -48,7 +48,6 @@ impl Pending {
         }
     }
 
-    /// Returns whether nothing is pending.
     pub(crate) fn is_empty(&self) -> bool
         ensures empty { IsTrue result ↔ (self.now ≡ []) }
         ensures pending { IsPending self.now }
@@ -56,7 +55,6 @@ impl Pending {
         self.count == 0
     }
 
-    /// Returns how many bytes are pending.
     pub(crate) fn len(&self) -> usize
         ensures length { result ≡ length self.now }
         ensures within { result ≤ 3 }
@@ -65,7 +63,6 @@ impl Pending {
         self.count
     }
 
-    /// Returns an array that starts with the bytes, and how many they are.
     #[inline(always)]
     pub(crate) fn bytes(&self) -> ([u8; 4], usize)
         ensures bytes { take result.1 result.0 ≡ self.now }
@@ -76,8 +73,6 @@ impl Pending {
         (self.bytes, self.count)
     }
 
-    /// Reads bytes of the source as long as they continue the incomplete sequence. Returns what they make of it and how
-    /// many they are.
     #[inline(never)]
     pub(crate) fn resume(&mut self, src: &[u8]) -> (Resumed, usize)
         requires unfinished { self.old ≢ [] }
@@ -107,8 +102,6 @@ impl Pending {
         }
     }
 
-    /// Ends a call that read all of its source, and returns what ended it. If no more bytes come, pending bytes are a
-    /// malformed sequence.
     pub(crate) fn end(&mut self, last: bool) -> DecoderResult
         ensures { IsResultAtEnd self.old last result self.new }
     {
@@ -120,8 +113,6 @@ impl Pending {
         DecoderResult::Malformed(count as u8, 0)
     }
 
-    /// Ends a call before `rest`, which starts with no character: reads the malformed sequence, or keeps an incomplete
-    /// sequence as pending. Returns what ended the call and how many bytes were read.
     #[tactic(auto, using(crate::proofs::CallLemmas::not_ascii))]
     #[inline]
     pub(crate) fn end_before(&mut self, rest: &[u8], last: bool) -> (DecoderResult, usize)
@@ -136,7 +127,7 @@ impl Pending {
         self.end_after_two(rest, last)
     }
 
-    /// Ends a call as `end_before` does. Out of line: most malformed sequences are one byte, and two show them.
+    /// Out of line: most malformed sequences are one byte, and two bytes show them.
     #[tactic(auto, using(crate::proofs::CallLemmas::not_ascii, crate::proofs::FirstLemmas::pending_rest))]
     #[inline(never)]
     pub(crate) fn end_after_two(&mut self, rest: &[u8], last: bool) -> (DecoderResult, usize)

@@ -1,4 +1,5 @@
-//! Whole bytes with U+FFFD for each malformed sequence, into a destination of any length.
+//! Whole bytes with U+FFFD for each malformed sequence, into a destination of any length. Only U+FFFD has to fit,
+//! though the decoder reports a malformed sequence only into space for any character.
 ghost use Rattle.std.specs.Prelude.{◌≡◌, ℕ, List, ◌≤◌, true, [], length, take, drop, IfSome, IfNone};
 ghost use Rattle.encoding_definitions.specs.Parts.{BeginsWithNoCharacter};
 ghost use Rattle.encoding_definitions.specs.Prefixes.{WritesPrefix};
@@ -7,25 +8,20 @@ ghost use Rattle.encoding_text.specs.Replacing.{ConvertsParts};
 
 use super::pending::Pending;
 use super::{DecoderResult, decode};
-use crate::utf_8::CodeUnit;
+use crate::utf_8::FromUtf8;
 use crate::utf_8::first::First;
-use encoding_kernels::scalar::write_scalar;
+use encoding_kernels::scalar::{REPLACEMENT_CHARACTER, REPLACEMENT_UNIT, write_scalar};
 use encoding_kernels::simd::width::ASCII_END;
 
-/// The scalar value that replaces a malformed sequence.
-const REPLACEMENT_CHARACTER: u32 = 0xFFFD;
-
 /// Code units that text with U+FFFD for each malformed sequence is written in.
-pub(crate) trait Replacing: CodeUnit {
-    /// Returns the length of U+FFFD.
+pub(crate) trait Replacing: FromUtf8 {
     fn replacement_length() -> usize
-        ensures length { result ≡ length (Self.encode 0xFFFD) }
+        ensures length { result ≡ length (Self.encode REPLACEMENT_CHARACTER) }
         ensures at_most { result ≤ Self.MAX_UNITS };
 
-    /// Writes U+FFFD to the start of `dst`, and returns its length.
     fn write_replacement(dst: &mut [Self]) -> usize
-        requires dst_length { length (Self.encode 0xFFFD) ≤ length dst.old }
-        ensures { WritesPrefix dst.old dst.new result (Self.encode 0xFFFD) };
+        requires dst_length { length (Self.encode REPLACEMENT_CHARACTER) ≤ length dst.old }
+        ensures { WritesPrefix dst.old dst.new result (Self.encode REPLACEMENT_CHARACTER) };
 }
 
 impl Replacing for u16 {
@@ -36,7 +32,7 @@ impl Replacing for u16 {
 
     #[inline]
     fn write_replacement(dst: &mut [u16]) -> usize {
-        dst[0] = 0xFFFD;
+        dst[0] = REPLACEMENT_UNIT;
         1
     }
 }
@@ -53,9 +49,7 @@ impl Replacing for u8 {
     }
 }
 
-/// Returns the length of the malformed sequence at the start of the bytes, which are all that is left. `None` if there
-/// are none, or they start with a character.
-#[tactic(auto, using(crate::proofs::CallLemmas::not_ascii, crate::proofs::ReplacingLemmas::begins_character, crate::proofs::FirstLemmas::all_malformed))]
+#[tactic(auto, using(crate::proofs::ReplacingLemmas::malformed_at_end))]
 #[inline(always)]
 pub(crate) fn malformed_length(bytes: &[u8]) -> Option<usize>
     ensures if_some { IfSome result (λ n. (n ≤ length bytes.now)
@@ -80,8 +74,6 @@ pub(crate) fn malformed_length(bytes: &[u8]) -> Option<usize>
     }
 }
 
-/// Converts the first parts of `src`, characters and malformed sequences, as many as fit into `dst`. Returns how many
-/// bytes it read, how many code units it wrote, and for how many malformed sequences it wrote U+FFFD.
 #[inline(always)]
 pub(crate) fn convert_parts<U: Replacing>(src: &[u8], dst: &mut [U]) -> (usize, usize, usize)
     ensures { ConvertsParts U.encode src.now dst.old dst.new result.0 result.1 result.2 }
@@ -107,7 +99,6 @@ pub(crate) fn convert_parts<U: Replacing>(src: &[u8], dst: &mut [U]) -> (usize, 
                 replaced += 1;
             }
             DecoderResult::OutputFull => {
-                // The decoder reports a malformed sequence only into space for any character.
                 let Some(length) = malformed_length(&src[read..]) else {
                     return (read, written, replaced);
                 };

@@ -1,10 +1,12 @@
-//! Checks of text for right-to-left characters and for Latin1.
+//! Checks of text for right-to-left characters and for Latin1. A kernel skips blocks that certainly have no right-to-
+//! left character, and what follows them is tested one by one.
 
 ghost use Rattle.std.specs.Prelude.{◌≡◌, ◌<◌, ◌≤◌, ◌↔◌, ◌⊎◌, ℕ, length, IsTrue, IsFalse};
 ghost use Rattle.std.specs.Str.{IsUtf8};
 ghost use Rattle.std.specs.Int.{IsInRange};
 ghost use Rattle.encoding_definitions.specs.Latin1.{IsLatin1, IsUtf8Latin1};
-ghost use Rattle.encoding_definitions.specs.Bidi.{IsRightToLeft, IsRightToLeftUnit, IsBidiUnits, IsBidiText, IsBidiBytes};
+ghost use Rattle.encoding_definitions.specs.Bidi.{IsRightToLeft, IsRightToLeftUnit};
+ghost use Rattle.encoding_definitions.specs.Bidi.{IsBidiUnits, IsBidiText, IsBidiBytes};
 ghost use Rattle.encoding_text.specs.Classes.{Classifies};
 ghost use Rattle.encoding_kernels.specs.RightToLeft.{rtl_second_end, rtl_mark_lead, RtlAt, NoRtlIn, NoneRightToLeft};
 ghost use Rattle.encoding_kernels.specs.Scans.{BelowUpTo};
@@ -32,7 +34,6 @@ pub enum Latin1Bidi {
     Bidi = 2,
 }
 
-/// Returns whether the scalar value is right-to-left.
 #[tactic(auto, using(encoding_definitions::proofs::BidiTextLemmas::right_to_left_from))]
 fn is_right_to_left(scalar: u32) -> bool
     ensures { IsTrue result ↔ IsRightToLeft scalar }
@@ -56,7 +57,7 @@ pub fn is_char_bidi(c: char) -> bool
     is_right_to_left(u32::from(c))
 }
 
-/// Returns whether the UTF-16 code unit is the high surrogate of right-to-left characters.
+/// Returns whether it is the high surrogate of right-to-left characters.
 fn is_high_half(u: u16) -> bool
     ensures { IsTrue result ↔ (IsInRange 0xD802 0xD803 u ⊎ IsInRange 0xD83A 0xD83B u) }
 {
@@ -67,7 +68,7 @@ fn is_high_half(u: u16) -> bool
 }
 
 /// Returns whether the UTF-16 code unit is a right-to-left character, or the high surrogate of one.
-#[tactic(auto, using(encoding_definitions::proofs::BidiUnitsLemmas::unit_form, encoding_definitions::proofs::BidiUnitsLemmas::unit_scalar, encoding_definitions::proofs::BidiUnitsLemmas::unit_high, encoding_definitions::proofs::BidiUnitsLemmas::unit_low_none))]
+#[tactic(auto, using(crate::proofs::DefinitionRules::bidi_units))]
 pub fn is_utf16_code_unit_bidi(u: u16) -> bool
     ensures { IsTrue result ↔ IsRightToLeftUnit u }
 {
@@ -81,8 +82,7 @@ pub fn is_utf16_code_unit_bidi(u: u16) -> bool
     is_right_to_left(unit)
 }
 
-/// Returns whether right-to-left characters may start with the byte.
-fn may_start_rtl(lead: u8) -> bool
+fn may_start_right_to_left(lead: u8) -> bool
     ensures { IsFalse result → (third : ℕ) → rtl_second_end lead (rtl_mark_lead third) ≡ 0 }
 {
     match lead {
@@ -91,12 +91,11 @@ fn may_start_rtl(lead: u8) -> bool
     }
 }
 
-/// Returns whether a right-to-left character starts at the index.
-fn stands_at(bytes: &[u8], at: usize) -> bool
+fn is_right_to_left_at(bytes: &[u8], at: usize) -> bool
     requires { at < length bytes.now }
     ensures { IsTrue result ↔ RtlAt bytes.now at }
 {
-    if !may_start_rtl(bytes[at]) {
+    if !may_start_right_to_left(bytes[at]) {
         return false;
     }
     let Some(length) = character_length(&bytes[at..]) else {
@@ -105,22 +104,20 @@ fn stands_at(bytes: &[u8], at: usize) -> bool
     is_right_to_left(decode_utf8_scalar(&bytes[at..at + length]))
 }
 
-/// Returns whether a right-to-left character starts at one of the indices.
-fn stands_between(bytes: &[u8], from: usize, to: usize) -> bool
+fn has_right_to_left_between(bytes: &[u8], from: usize, to: usize) -> bool
     requires { (from ≤ to) × (to ≤ length bytes.now) }
     ensures found { IsTrue result → (k : ℕ) × (k < length bytes.now) × RtlAt bytes.now k }
-    ensures no_rtl { IsFalse result → NoRtlIn bytes.now from to }
+    ensures no_right_to_left { IsFalse result → NoRtlIn bytes.now from to }
 {
     for at in from..to {
-        if stands_at(bytes, at) {
+        if is_right_to_left_at(bytes, at) {
             return true;
         }
     }
     false
 }
 
-/// Returns whether a character of the well-formed text is right-to-left.
-fn is_text_bidi(bytes: &[u8]) -> bool
+fn has_right_to_left(bytes: &[u8]) -> bool
     requires { IsUtf8 bytes.now }
     ensures { IsTrue result ↔ IsBidiText bytes.now }
 {
@@ -128,7 +125,7 @@ fn is_text_bidi(bytes: &[u8]) -> bool
     while at < bytes.len() {
         let from = skip_clear(bytes, at);
         at = from + STRIDE.min(bytes.len() - from);
-        if stands_between(bytes, from, at) {
+        if has_right_to_left_between(bytes, from, at) {
             return true;
         }
     }
@@ -139,7 +136,7 @@ fn is_text_bidi(bytes: &[u8]) -> bool
 pub fn is_str_bidi(buffer: &str) -> bool
     ensures { IsTrue result ↔ IsBidiText buffer.now }
 {
-    is_text_bidi(buffer.as_bytes())
+    has_right_to_left(buffer.as_bytes())
 }
 
 /// Returns whether the bytes are not well-formed UTF-8, or one of their characters is right-to-left.
@@ -155,7 +152,7 @@ pub fn is_utf8_bidi(buffer: &[u8]) -> bool
         }
         rest = &rest[prefix..];
         let valid = utf8_valid_up_to(&rest[..VALIDATED_PIECE.min(rest.len())]);
-        if is_text_bidi(&rest[..valid]) {
+        if has_right_to_left(&rest[..valid]) {
             return true;
         }
         rest = &rest[valid..];
@@ -172,8 +169,7 @@ pub fn is_utf8_bidi(buffer: &[u8]) -> bool
     }
 }
 
-/// Skips code units below the first right-to-left one, as `skip_units_below` does. Of fewer than eight, other scripts' text seldom
-/// begins with one, and then no vector is tested.
+/// Tests fewer than eight units only if the first is low: text of other scripts seldom begins with one.
 #[inline(always)]
 fn skip_low_units(units: &[u16]) -> usize
     ensures within { result ≤ length units.now }
@@ -185,13 +181,12 @@ fn skip_low_units(units: &[u16]) -> usize
     skip_units_below(units, FIRST_UNIT)
 }
 
-/// Skips code units from `from` on as `skip_clear_units` does, but none of fewer than eight: for these no vector is tested there, and
-/// the call would cost more than their tests.
+/// `skip_clear_units`, except that it skips nothing in fewer than eight units: testing these one by one is cheaper.
 #[inline(always)]
 fn skip_by_vectors(units: &[u16], from: usize) -> usize
     requires { from ≤ length units.now }
     ensures within { (from ≤ result) × (result ≤ length units.now) }
-    ensures no_rtl { NoneRightToLeft units.now from result }
+    ensures no_right_to_left { NoneRightToLeft units.now from result }
 {
     if units.len() < UNIT_STRIDE {
         return from;

@@ -1,4 +1,5 @@
-//! Conversions from and to Latin1 that borrow their input if it is ASCII.
+//! Conversions from and to Latin1 that borrow their input if it is ASCII. Otherwise they allocate once, for the longest
+//! result.
 
 ghost use Rattle.std.specs.Prelude.{◌≡◌, ◌+◌, ◌-◌, ◌*◌, ◌≤◌, length, take, encode_utf8_all, IfOk};
 ghost use Rattle.std.specs.Str.{IsAscii, chars};
@@ -58,7 +59,6 @@ pub fn encode_latin1_lossy<'a>(alloc: Global, string: &'a str) -> Result<CowByte
     Ok(CowBytes::Owned(latin1_of_utf8(alloc, text, prefix)?))
 }
 
-/// Returns ASCII bytes as a text.
 #[tactic(auto, using(std::proofs::lemmas::Grind::common_steps, crate::proofs::WholePrefixesLemmas::ascii_texts))]
 fn ascii_text<'a>(bytes: &'a [u8]) -> &'a str
     requires { IsAscii bytes.now }
@@ -67,7 +67,6 @@ fn ascii_text<'a>(bytes: &'a [u8]) -> &'a str
     unsafe { std::str::from_utf8_unchecked(bytes) }
 }
 
-/// Returns the text whose characters are the bytes. The first `prefix` bytes are ASCII.
 fn utf8_of_latin1(alloc: Global, bytes: &[u8], prefix: usize) -> Result<String, AllocError>
     requires within { prefix ≤ length bytes.now }
     requires ascii { IsAscii (take prefix bytes.now) }
@@ -86,8 +85,6 @@ fn utf8_of_latin1(alloc: Global, bytes: &[u8], prefix: usize) -> Result<String, 
     Ok(unsafe { String::from_utf8_unchecked(text) })
 }
 
-/// Writes the UTF-8 of the bytes as characters, and returns its length. Copies the first `prefix` bytes, which are
-/// ASCII. The rest of `dst` is unchanged.
 fn write_utf8_of_latin1(bytes: &[u8], prefix: usize, dst: &mut [u8]) -> usize
     requires within { prefix ≤ length bytes.now }
     requires ascii { IsAscii (take prefix bytes.now) }
@@ -98,7 +95,6 @@ fn write_utf8_of_latin1(bytes: &[u8], prefix: usize, dst: &mut [u8]) -> usize
     prefix + latin1::convert_latin1_to_utf8(&bytes[prefix..], &mut dst[prefix..])
 }
 
-/// Returns the scalar values of Latin1 text in UTF-8. The first `prefix` bytes are ASCII.
 fn latin1_of_utf8(alloc: Global, text: &[u8], prefix: usize) -> Result<Vec<u8>, AllocError>
     requires latin1 { IsUtf8Latin1 text.now }
     requires within { prefix ≤ length text.now }
@@ -112,8 +108,6 @@ fn latin1_of_utf8(alloc: Global, text: &[u8], prefix: usize) -> Result<Vec<u8>, 
     Ok(bytes)
 }
 
-/// Writes the scalar values of Latin1 text in UTF-8, and returns how many bytes it wrote. Copies the first `prefix`
-/// bytes, which are ASCII. The rest of `dst` is unchanged.
 fn write_latin1_of_utf8(text: &[u8], prefix: usize, dst: &mut [u8]) -> usize
     requires latin1 { IsUtf8Latin1 text.now }
     requires within { prefix ≤ length text.now }

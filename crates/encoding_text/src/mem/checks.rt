@@ -1,4 +1,5 @@
-//! Checks of text for ASCII and Latin1, and the lengths of such prefixes.
+//! Checks of text for ASCII and Latin1, and the lengths of such prefixes. Text that fails often does so at its start,
+//! which is tested before any block.
 
 ghost use Rattle.std.specs.Prelude.{◌<◌, ◌≤◌, ◌↔◌, length, take, IsTrue};
 ghost use Rattle.std.specs.Str.{IsAscii};
@@ -161,8 +162,7 @@ pub fn utf8_latin1_up_to(buffer: &[u8]) -> usize
     longest_latin1(buffer, run)
 }
 
-/// Returns the length of an ASCII prefix whose first `from` bytes are known to be ASCII. Searches further if
-/// `from` is 0 or a whole stride, and otherwise returns `from`.
+/// Searches on only if nothing is known, or a whole stride.
 #[inline(always)]
 fn ascii_prefix_len(bytes: &[u8], from: usize) -> usize
     requires { (from ≤ length bytes.now) × BelowUpTo 0x80 bytes.now from }
@@ -176,7 +176,6 @@ fn ascii_prefix_len(bytes: &[u8], from: usize) -> usize
     }
 }
 
-/// Returns the length of a prefix that is Latin1 in UTF-8: an ASCII prefix, known up to `from`, and whole blocks.
 #[tactic(auto, using(encoding_kernels::proofs::PairsLemmas::ascii_latin1))]
 #[inline(always)]
 fn latin1_prefix_len(bytes: &[u8], from: usize) -> usize
@@ -193,15 +192,12 @@ fn latin1_prefix_len(bytes: &[u8], from: usize) -> usize
     latin1_blocks(bytes, prefix + 1)
 }
 
-/// Returns whether a Latin1 character of two bytes starts with the byte.
 fn is_latin1_lead(byte: u8) -> bool
     ensures { IsTrue result → (0xC2 ≤ byte) × (byte < 0xC4) }
 {
     byte == 0xC2 || byte == 0xC3
 }
 
-/// Returns the length of the longest prefix that is Latin1 in UTF-8, by whole blocks and then by characters. The first
-/// `from` bytes are ASCII. Out of line.
 #[inline(never)]
 fn longest_latin1(buffer: &[u8], from: usize) -> usize
     requires { (from ≤ length buffer.now) × BelowUpTo 0x80 buffer.now from }

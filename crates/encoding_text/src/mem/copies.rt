@@ -33,7 +33,7 @@ pub fn copy_ascii_to_basic_latin(src: &[u8], dst: &mut [u16]) -> usize
 
 /// Copies the longest ASCII prefix of UTF-16 code units, each as a byte, and returns its length. `dst` is at least as
 /// long as `src`.
-#[tactic(auto, using(crate::proofs::WholePrefixesLemmas::prefix_of_first, crate::proofs::WholePrefixesLemmas::written_of_room))]
+#[tactic(auto, using(crate::proofs::WholePrefixesLemmas::copied_prefixes))]
 pub fn copy_basic_latin_to_ascii(src: &[u16], dst: &mut [u8]) -> usize
     requires dst_length { length src.now ≤ length dst.old }
     ensures prefix { IsLongestPrefix IsAscii src.now result }

@@ -1,4 +1,5 @@
-//! Conversions from UTF-16 with the number of unpaired surrogates that they replaced.
+//! Conversions from UTF-16 with the number of unpaired surrogates that they replaced. A second pass over what was read
+//! counts them.
 
 ghost use Rattle.std.specs.Prelude.{◌≡◌, ◌≤◌, length, take};
 ghost use Rattle.std.specs.Str.{IsUtf8};

@@ -1,7 +1,9 @@
-//! Conversions of Latin1 to UTF-8 and UTF-16, and of UTF-16 to Latin1. In Latin1 each byte is the scalar value of its character:
-//! Infra Standard, isomorphic decode and encode. A conversion leaves the rest of `dst` unchanged.
+//! Conversions of Latin1 to UTF-8 and UTF-16, and of UTF-16 to Latin1. In Latin1 each byte is the scalar value of its
+//! character: Infra Standard, isomorphic decode and encode. What follows the first ASCII is out of line, so that ASCII
+//! needs few registers. A conversion leaves the rest of `dst` unchanged.
 
-ghost use Rattle.std.specs.Prelude.{◌≡◌, ◌+◌, ◌-◌, ◌*◌, ◌%◌, ◌<◌, ◌≤◌, ℕ, List, [], ◌∷◌, take, length, map, slice_index, encode_utf8, encode_utf8_all, IfSome, IfNone};
+ghost use Rattle.std.specs.Prelude.{◌≡◌, ◌+◌, ◌-◌, ◌*◌, ◌%◌, ◌<◌, ◌≤◌, ℕ, List, [], ◌∷◌, take, length};
+ghost use Rattle.std.specs.Prelude.{map, slice_index, encode_utf8, encode_utf8_all, IfSome, IfNone};
 ghost use Rattle.std.specs.Str.{IsAscii};
 ghost use Rattle.encoding_definitions.specs.Prefixes.{IsLongestFittingPrefix, WritesPrefix};
 
@@ -36,7 +38,6 @@ pub fn convert_latin1_to_utf16(src: &[u8], dst: &mut [u16])
     }
 }
 
-/// Copies the longest ASCII prefix that fits, and returns its length.
 #[inline(always)]
 pub(crate) fn copy_ascii(src: &[u8], dst: &mut [u8]) -> usize
     ensures within { (result ≤ length src.now) × (result ≤ length dst.old) }
@@ -51,8 +52,7 @@ pub(crate) fn copy_ascii(src: &[u8], dst: &mut [u8]) -> usize
     copy_ascii_prefix(src, dst)
 }
 
-/// Writes the UTF-8 of blocks of 64 bytes and then of 16, until the next 64 bytes are ASCII. Returns how many bytes it read
-/// and how many it wrote. In the last 64 bytes ASCII ends no blocks, since they would soon be over.
+/// Ends before 64 bytes of ASCII, except near the end of `src`, where few blocks are left.
 #[inline(always)]
 fn convert_latin1_blocks(src: &[u8], dst: &mut [u8]) -> (usize, usize)
     ensures within { result.0 ≤ length src.now }
@@ -79,8 +79,7 @@ fn convert_latin1_blocks(src: &[u8], dst: &mut [u8]) -> (usize, usize)
     (read, written)
 }
 
-/// Writes the end of a text of which at most sixteen bytes are left, and returns the length of all, if `dst` has the space
-/// of a block. The last sixteen bytes are one block, whose first ones are written again.
+/// Writes the last sixteen bytes as one block, whose first ones are written again.
 #[inline(always)]
 fn finish_latin1(src: &[u8], dst: &mut [u8], read: usize, written: usize) -> Option<usize>
     requires left { (16 ≤ length src.now) × (read ≤ length src.now) × (length src.now ≤ read + 16) }
@@ -100,8 +99,6 @@ fn finish_latin1(src: &[u8], dst: &mut [u8], read: usize, written: usize) -> Opt
     Some(at + write_latin1(block, dst, at))
 }
 
-/// Converts Latin1 as `convert_latin1_to_utf8_partial` does, if `dst` already has the UTF-8 of the first `from` bytes, which
-/// is `to` bytes long. Out of line, so that the ASCII before other text needs few registers.
 #[inline(never)]
 fn convert_latin1_turns(src: &[u8], dst: &mut [u8], from: usize, to: usize) -> (usize, usize)
     requires read { (from ≤ length src.now)
@@ -141,8 +138,7 @@ fn convert_latin1_turns(src: &[u8], dst: &mut [u8], from: usize, to: usize) -> (
     (read, written)
 }
 
-/// Writes the UTF-8 of at most seven bytes of Latin1 as `write_few_latin1` does for more, and returns its length. Arrays hold
-/// these bytes and their UTF-8, since `dst` may have no space for a vector.
+/// By arrays, since `dst` may have no space for a vector.
 #[inline(never)]
 fn write_least_latin1(src: &[u8], dst: &mut [u8]) -> usize
     requires src_length { length src.now < 8 }
@@ -159,8 +155,7 @@ fn write_least_latin1(src: &[u8], dst: &mut [u8]) -> usize
     length
 }
 
-/// Converts Latin1 as `convert_latin1_to_utf8_partial` does, by blocks from the first byte on, even if ASCII comes first. Turns
-/// follow only if these leave something. Out of line, so that ASCII alone needs few registers.
+/// Starts with blocks, even if ASCII comes first.
 #[inline(never)]
 fn convert_few_latin1(src: &[u8], dst: &mut [u8]) -> (usize, usize)
     ensures prefix { IsLongestFittingPrefix (λ b. b ∷ []) encode_utf8 src.now
@@ -193,7 +188,6 @@ fn convert_few_latin1(src: &[u8], dst: &mut [u8]) -> (usize, usize)
     convert_latin1_turns(src, dst, read, written)
 }
 
-/// Converts more than 128 bytes of Latin1 as `convert_latin1_to_utf8_partial` does. Turns follow the first ASCII prefix.
 #[inline(never)]
 fn convert_long_latin1(src: &[u8], dst: &mut [u8]) -> (usize, usize)
     requires src_length { 128 < length src.now }

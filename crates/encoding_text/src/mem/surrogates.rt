@@ -5,18 +5,15 @@ ghost use Rattle.encoding_definitions.specs.Prefixes.{IsLongestPrefix};
 ghost use Rattle.encoding_definitions.specs.Surrogates.{IsValidUtf16, AreRepairedUnits};
 ghost use Rattle.encoding_definitions.specs.Utf16.{AreCodeUnits};
 
-use encoding_kernels::scalar::{is_high_surrogate, is_low_surrogate, is_surrogate};
+use encoding_kernels::scalar::{
+    REPLACEMENT_UNIT, is_high_surrogate, is_low_surrogate, is_surrogate,
+};
 use encoding_kernels::simd::width::{FOUR, HALF_UNIT_BLOCK, STRIDE, UNIT_BLOCK};
 use encoding_kernels::tuning::PAIRED_BLOCKS_BEFORE_RETEST;
 use encoding_kernels::utf16::validate::{
     are_paired, before_cut_pair, has_no_surrogate, is_after_high_surrogate, paired_run,
 };
 
-/// What replaces an unpaired surrogate.
-const REPLACEMENT_UNIT: u16 = 0xFFFD;
-
-/// Returns how many more blocks are tested for pairs at once, after a block with surrogates for which `expected` of them
-/// were left.
 #[inline(always)]
 fn blocks_before_retest(expected: usize) -> usize
     ensures first { expected ≡ 0 → result ≡ 8 }
@@ -73,8 +70,6 @@ pub fn utf16_valid_up_to(buffer: &[u16]) -> usize
     at
 }
 
-/// Returns the index of the first unpaired surrogate among the code units from index `from` on, or the length of
-/// `units`.
 fn next_unpaired(units: &[u16], from: usize) -> usize
     requires { from ≤ length units.now }
     ensures following { from ≤ result }
@@ -85,7 +80,7 @@ fn next_unpaired(units: &[u16], from: usize) -> usize
 }
 
 /// Replaces each unpaired surrogate with U+FFFD. All other code units are unchanged.
-#[tactic(auto, using(encoding_definitions::proofs::SurrogateLemmas::repair_starts, encoding_definitions::proofs::SurrogateLemmas::repair_goes_on, encoding_definitions::proofs::SurrogateLemmas::repair_ends))]
+#[tactic(auto, using(crate::proofs::DefinitionRules::surrogate_repair))]
 pub fn ensure_utf16_validity(buffer: &mut [u16])
     ensures { AreRepairedUnits buffer.old buffer.new }
 {

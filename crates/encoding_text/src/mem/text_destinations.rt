@@ -1,4 +1,5 @@
-//! Conversions into the start of a text, which is well-formed before the call and after it.
+//! Conversions into the start of a text, which is well-formed before the call and after it. What an overwritten
+//! character leaves after the output becomes zero.
 
 ghost use Rattle.std.specs.Prelude.{◌≡◌, ◌*◌, ◌≤◌, [], ◌∷◌, length, take, encode_utf8, encode_utf8_all};
 ghost use Rattle.std.specs.Str.{IsUtf8};
@@ -86,7 +87,7 @@ pub fn convert_latin1_to_str(src: &[u8], dst: &mut [u8]) -> usize
 /// Sets the continuation bytes at the start of `bytes` to zero: after a write into a text, what is left of a character
 /// whose first bytes were overwritten. The rest is unchanged. It reads no byte after the first that is no continuation
 /// byte.
-#[tactic(auto, using(std::proofs::lemmas::List::Edits::fill_more, encoding_definitions::proofs::ClearingLemmas::byte_after, encoding_definitions::proofs::ClearingLemmas::clear_next))]
+#[tactic(auto, using(crate::proofs::DefinitionRules::clearing))]
 #[inline(never)]
 pub fn clear_continuation_bytes(bytes: &mut [u8])
     ensures { bytes.new ≡ clear_continuation bytes.old }
@@ -98,8 +99,6 @@ pub fn clear_continuation_bytes(bytes: &mut [u8])
     }
 }
 
-/// Sets the first `zeros` bytes to zero, or all if there are fewer, and then the continuation bytes directly after
-/// those.
 fn clear(bytes: &mut [u8], zeros: usize)
     ensures { bytes.new ≡ cleared_prefix zeros bytes.old }
 {

@@ -1,4 +1,5 @@
-//! From UTF-8 to UTF-16, whole buffers. A conversion leaves the rest of `dst` unchanged.
+//! From UTF-8 to UTF-16, whole buffers. What follows the first ASCII is out of line, so that ASCII needs few registers.
+//! A conversion leaves the rest of `dst` unchanged.
 
 ghost use Rattle.std.specs.Prelude.{◌≡◌, ℕ, ◌+◌, ◌<◌, ◌≤◌, ◌↔◌, List, length, IfSome, IsSome};
 ghost use Rattle.std.specs.List.{flat_map};
@@ -14,11 +15,10 @@ use crate::ascii::prefixes::{unpack_ascii_prefix, unpack_blocks, write_short_asc
 use crate::decoder::replacing::malformed_length;
 use crate::utf_8::{convert_beyond_ascii, convert_text, convert_utf8_to_utf16_up_to_invalid};
 use encoding_kernels::lengths::{BLOCK_OF_TEXT, SHORT};
+use encoding_kernels::scalar::REPLACEMENT_UNIT;
 use encoding_kernels::simd::width::ASCII_END;
 use encoding_kernels::utf8_to_utf16::text::convert_short;
 
-/// Converts bytes that begin with a malformed sequence as `convert_utf8_to_utf16` does. Out of line, so that well-formed text needs
-/// few registers.
 #[inline(never)]
 fn convert_malformed(src: &[u8], dst: &mut [u16]) -> usize
     requires no_character { BeginsWithNoCharacter src.now }
@@ -30,7 +30,7 @@ fn convert_malformed(src: &[u8], dst: &mut [u16]) -> usize
     let mut written = 0;
     while let Some(length) = malformed_length(&src[read..]) {
         read += length;
-        dst[written] = 0xFFFD;
+        dst[written] = REPLACEMENT_UNIT;
         written += 1;
         let (bytes, units) = convert_utf8_to_utf16_up_to_invalid(&src[read..], &mut dst[written..]);
         read += bytes;
@@ -39,8 +39,6 @@ fn convert_malformed(src: &[u8], dst: &mut [u16]) -> usize
     written
 }
 
-/// Converts bytes that aren't all ASCII as `convert_utf8_to_utf16` does. If they are more than 64, the first `blocks` are ASCII and
-/// converted. Out of line, so that ASCII needs no saved registers.
 #[inline(never)]
 fn convert_with_replacement(src: &[u8], dst: &mut [u16], blocks: usize) -> usize
     requires dst_length { length src.now < length dst.old }
@@ -82,8 +80,6 @@ pub fn convert_utf8_to_utf16(src: &[u8], dst: &mut [u16]) -> usize
     convert_with_replacement(src, dst, 0)
 }
 
-/// Converts a text of more than 64 bytes to UTF-16, and returns how many code units it wrote. Out of line, so that a short text
-/// needs few registers.
 #[inline(never)]
 fn convert_long_text(src: &[u8], dst: &mut [u16]) -> usize
     requires src_length { 64 < length src.now }

@@ -1,5 +1,6 @@
-//! Conversion of UTF-8 to Latin1, in which each byte is the scalar value of its character. Infra Standard: isomorphic encode. A
-//! conversion leaves the rest of `dst` unchanged.
+//! Conversion of UTF-8 to Latin1, in which each byte is the scalar value of its character. Infra Standard: isomorphic
+//! encode. What follows the first ASCII is out of line, so that ASCII needs few registers. A conversion leaves the rest
+//! of `dst` unchanged.
 
 ghost use Rattle.std.specs.Prelude.{◌≡◌, ◌+◌, ◌-◌, ◌<◌, ◌≤◌, ◌⊎◌, take, drop, length, encode_utf8_all, IfSome, IfNone};
 ghost use Rattle.std.specs.Str.{chars};
@@ -23,7 +24,7 @@ const GROUP: usize = BLOCKS_BEFORE_RETEST * STRIDE;
 /// The space that a group needs: the sixteen bytes after it are loaded and stored again.
 const GROUP_ROOM: usize = GROUP + STRIDE;
 
-/// Returns how many of N bytes come before a character that is cut at their end. `last` is the last of them.
+/// Leaves out a last byte that begins a character of two.
 #[inline(always)]
 fn whole_length<const N: usize>(last: u8) -> usize
     requires { 0 < N }
@@ -32,8 +33,7 @@ fn whole_length<const N: usize>(last: u8) -> usize
     if last < 0xC0 { N } else { N - 1 }
 }
 
-/// Writes the end of a text of which fewer than sixteen bytes are left, and returns the length of all, if `dst` has the
-/// space of a block. The last sixteen bytes are one block, whose first ones are written again.
+/// Writes the last sixteen bytes as one block, whose first ones are written again.
 #[inline(always)]
 fn finish_utf8(src: &[u8], dst: &mut [u8], read: usize, written: usize) -> Option<usize>
     requires left { (16 < length src.now) × (read ≤ length src.now) × (length src.now < read + 16) }
@@ -55,8 +55,7 @@ fn finish_utf8(src: &[u8], dst: &mut [u8], read: usize, written: usize) -> Optio
     Some(at + count)
 }
 
-/// Writes the Latin1 of groups of 32 bytes and then of blocks of sixteen, if `dst` already has that of the first `from` bytes,
-/// which is `to` bytes long. Returns how many bytes were read and written in all. Ends before 64 bytes of ASCII.
+/// Ends before 64 bytes of ASCII.
 #[inline(always)]
 fn convert_utf8_blocks(src: &[u8], dst: &mut [u8], from: usize, to: usize) -> (usize, usize)
     requires latin1 { IsUtf8Latin1 src.now }
@@ -86,8 +85,6 @@ fn convert_utf8_blocks(src: &[u8], dst: &mut [u8], from: usize, to: usize) -> (u
     (read, written)
 }
 
-/// Converts Latin1 text in UTF-8 as `convert_utf8_to_latin1` does, if `dst` already has the Latin1 of the first `from` bytes,
-/// which is `to` bytes long. Out of line, so that the ASCII before other text needs few registers.
 #[inline(never)]
 fn convert_utf8_turns(src: &[u8], dst: &mut [u8], from: usize, to: usize) -> usize
     requires dst_length { length (chars src.now) ≤ length dst.old }
@@ -119,8 +116,7 @@ fn convert_utf8_turns(src: &[u8], dst: &mut [u8], from: usize, to: usize) -> usi
     written
 }
 
-/// Converts fewer than sixteen bytes of Latin1 text in UTF-8 as `convert_utf8_to_latin1` does. Zeros follow them in a vector, and each
-/// of these is a byte of Latin1 too. An array holds the Latin1, since `dst` may have no space for a vector.
+/// The zeros after the text in its vector are Latin1 too. By an array, since `dst` may have no space for a vector.
 #[inline(never)]
 fn convert_least_utf8(src: &[u8], dst: &mut [u8]) -> usize
     requires src_length { length src.now < 16 }
@@ -134,8 +130,7 @@ fn convert_least_utf8(src: &[u8], dst: &mut [u8]) -> usize
     length
 }
 
-/// Converts Latin1 text in UTF-8 as `convert_utf8_to_latin1` does, by blocks from the first byte on, even if ASCII comes
-/// first. Turns follow only if these leave something. Out of line, so that ASCII alone needs few registers.
+/// Starts with blocks, even if ASCII comes first.
 #[inline(never)]
 fn convert_few_utf8(src: &[u8], dst: &mut [u8]) -> usize
     requires dst_length { length (chars src.now) ≤ length dst.old }
@@ -151,7 +146,6 @@ fn convert_few_utf8(src: &[u8], dst: &mut [u8]) -> usize
     convert_utf8_turns(src, dst, read, written)
 }
 
-/// Converts more than 128 bytes of Latin1 text in UTF-8 as `convert_utf8_to_latin1` does. Turns follow the first ASCII prefix.
 #[inline(never)]
 fn convert_long_utf8(src: &[u8], dst: &mut [u8]) -> usize
     requires src_length { 128 < length src.now }

@@ -79,7 +79,6 @@ impl Utf8Encoder {
         byte_length.checked_add(3 * self.pending_count())
     }
 
-    /// Returns how many code units are pending.
     fn pending_count(&self) -> usize
         ensures pending_length { result ≡ length self.now }
         ensures surrogate { IsPendingSurrogate self.now }
@@ -126,7 +125,6 @@ impl Utf8Encoder {
         (result, taken + read, first + written)
     }
 
-    /// `encode_from_utf16_raw` with nothing pending.
     fn encode_fresh(
         &mut self,
         src: &[u16],
@@ -182,7 +180,6 @@ impl Utf8Encoder {
     }
 }
 
-/// Returns how many of the code units can be written: all except a high surrogate that ends a call not marked last.
 fn due_length(src: &[u16], last: bool) -> usize
     ensures within { result ≤ length src.now }
     ensures surrogate { IsPendingSurrogate (drop result src.now) }
@@ -200,8 +197,6 @@ fn due_length(src: &[u16], last: bool) -> usize
     }
 }
 
-/// Returns the scalar value that is written for the first part of `high` followed by `src`, and how many code units of
-/// `src` that part takes.
 fn first_with_pending(high: u16, src: &[u16]) -> (u32, usize)
     requires { IsHighSurrogate high }
     ensures scalar { IsFirstScalar (high ∷ src.now) result.0 }
@@ -214,7 +209,6 @@ fn first_with_pending(high: u16, src: &[u16]) -> (u32, usize)
     (REPLACEMENT_CHARACTER, 0)
 }
 
-/// Encodes the text with nothing pending. Returns what ended the call and how many bytes it read and wrote.
 fn encode_text(src: &str, dst: &mut [u8]) -> (EncoderResult, usize)
     ensures call { TextEncodeStep [] src.now (length dst.old) result.0 result.1
         (take result.1 dst.new) [] }
@@ -228,7 +222,6 @@ fn encode_text(src: &str, dst: &mut [u8]) -> (EncoderResult, usize)
     (EncoderResult::InputEmpty, read)
 }
 
-/// Copies the first characters of the text, as many as fit into `dst`, and returns their length in bytes.
 #[tactic(auto, using(crate::proofs::EncoderCallLemmas::text_prefix))]
 fn copy_text(src: &str, dst: &mut [u8]) -> usize
     ensures longest { IsLongestFittingPrefix encode_utf8 encode_utf8 (chars src.now)

@@ -1,5 +1,5 @@
-//! What bytes begin with: ASCII, a character of several bytes, a malformed sequence, or an incomplete one. Unicode Standard,
-//! Table 3-7, and Encoding Standard, section 8.1.1.
+//! What bytes begin with: ASCII, a character of several bytes, a malformed sequence, or an incomplete one. Unicode
+//! Standard, Table 3-7, and Encoding Standard, section 8.1.1.
 ghost use Rattle.std.specs.Prelude.{◌<◌, ◌≤◌, length, take, slice_index, IfSome, IfNone};
 ghost use Rattle.encoding_definitions.specs.Sequence.{IsSequence, IsIncomplete};
 ghost use Rattle.encoding_definitions.specs.Parts.{BeginsWithNoCharacter};
@@ -23,8 +23,7 @@ pub(crate) enum First {
 impl First {
     ghost use Rattle.encoding_text.specs.Steps.{IsFirst};
 
-    /// Returns what the first two bytes show, or `None` if a continuation byte follows one that begins a sequence of several:
-    /// then most often a character is first. The first byte isn't ASCII.
+    /// `None` mostly means that a character comes first.
     #[inline(always)]
     pub(crate) fn of_two(bytes: &[u8]) -> Option<First>
         requires not_empty { 0 < length bytes.now }
@@ -34,7 +33,8 @@ impl First {
         ensures several { IfNone result (IsIncomplete (take 1 bytes.now)) }
     {
         let lead = bytes[0];
-        // a byte that ends the bytes is paired with itself, so that no branch depends on the length: it goes on with no byte
+        // a last byte is paired with itself, to avoid a branch on the length: a byte that begins a sequence is never a
+        // continuation byte
         let second = (bytes.len() - 1).min(1);
         // one test, since on random bytes a branch for each of the two costs more
         let mask = u8::from(begins_several(lead)) * 0xC0;
@@ -50,7 +50,7 @@ impl First {
         Some(First::Malformed(1))
     }
 
-    /// Returns what the bytes begin with, one byte at a time. The first isn't ASCII. Out of line: text seldom needs it.
+    /// Out of line: text seldom needs it.
     #[inline(never)]
     pub(crate) fn by_bytes(bytes: &[u8]) -> First
         requires not_empty { 0 < length bytes.now }
@@ -81,9 +81,7 @@ impl First {
     }
 }
 
-/// Returns the length of the character at the start of the bytes, if there is one. If there are four bytes, the table decides
-/// characters of three and of four.
-#[tactic(auto, using(std::proofs::lemmas::Bool::both_ways, encoding_definitions::proofs::SequenceLemmas::no_character_reads))]
+#[tactic(auto, using(crate::proofs::DefinitionRules::characters))]
 #[inline(always)]
 pub(crate) fn character_length(bytes: &[u8]) -> Option<usize>
     ensures length { IfSome result (λ n. (0 < n) × (n ≤ length bytes.now) × IsSequence

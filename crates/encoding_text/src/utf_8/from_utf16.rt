@@ -1,9 +1,12 @@
-//! UTF-16 to UTF-8, into a destination of any length. A conversion leaves the rest of `dst` unchanged.
-ghost use Rattle.std.specs.Prelude.{◌≡◌, ◌+◌, ◌<◌, ◌≤◌, ◌⊎◌, ◌-◌, ◌↔◌, length, take, slice_index, IsTrue, ◌*◌, IsUtf8, encode_utf8_all};
+//! UTF-16 to UTF-8, into a destination of any length. What follows the first ASCII is out of line, so that ASCII needs
+//! few registers. A conversion leaves the rest of `dst` unchanged.
+ghost use Rattle.std.specs.Prelude.{◌≡◌, ◌+◌, ◌<◌, ◌≤◌, ◌⊎◌, ◌-◌, ◌↔◌, length, take};
+ghost use Rattle.std.specs.Prelude.{slice_index, IsTrue, ◌*◌, IsUtf8, encode_utf8_all};
 ghost use Rattle.std.specs.Char.Utf16.{utf16_lossy_chars};
 ghost use Rattle.std.specs.Str.{IsAscii};
 ghost use Rattle.encoding_definitions.specs.Prefixes.{WritesPrefix};
-ghost use Rattle.encoding_definitions.specs.Utf16.{IsHighSurrogate, IsLowSurrogate, IsUtf8OfPrefix, IsUtf8OfLongestPrefix, IsUtf8OfUnits};
+ghost use Rattle.encoding_definitions.specs.Utf16.{IsHighSurrogate, IsLowSurrogate, IsUtf8OfPrefix};
+ghost use Rattle.encoding_definitions.specs.Utf16.{IsUtf8OfLongestPrefix, IsUtf8OfUnits};
 
 use crate::ascii;
 use crate::ascii::prefixes::{pack_blocks, write_short_ascii_as_bytes};
@@ -18,7 +21,7 @@ use encoding_kernels::utf16_to_utf8::text::{convert_blocks, convert_paired_block
 /// The most bytes that a character has in UTF-8.
 const LONGEST: usize = 4;
 
-/// Returns whether the first code unit is ASCII. Text of other scripts seldom begins with it, and then no vector is tested.
+/// Text of other scripts seldom begins with ASCII, and then no vector is tested.
 #[inline(always)]
 fn begins_with_ascii(src: &[u16]) -> bool
     ensures { IsTrue result ↔ ((0 < length src.now) × (slice_index src.now 0 < 0x80)) }
@@ -26,7 +29,6 @@ fn begins_with_ascii(src: &[u16]) -> bool
     !src.is_empty() && src[0] < BASIC_LATIN_END
 }
 
-/// Copies the longest ASCII prefix that leaves three bytes of `dst` free, and returns its length.
 #[inline(always)]
 fn copy_ascii(src: &[u16], dst: &mut [u8]) -> usize
     ensures within { (result ≤ length src.now) × (result ≤ length dst.old - 3) }
@@ -45,8 +47,8 @@ fn copy_ascii(src: &[u16], dst: &mut [u8]) -> usize
     }
 }
 
-/// Copies ASCII code units from the start, and returns how many, if all of `src` as ASCII would leave three bytes of `dst` free: all or
-/// none of at most 64, and of more the blocks that are ASCII.
+/// Copies leading ASCII and returns its length. Copies nothing unless `dst` has three bytes more than `src` has units.
+/// Up to 64 units are copied whole or not at all, more by blocks of 64.
 #[inline(always)]
 fn copy_first_ascii(src: &[u16], dst: &mut [u8]) -> usize
     ensures within { result ≤ length src.now }
@@ -65,7 +67,6 @@ fn copy_first_ascii(src: &[u16], dst: &mut [u8]) -> usize
     0
 }
 
-/// Returns whether a surrogate pair is at index `at`.
 #[inline(always)]
 fn is_pair(src: &[u16], at: usize) -> bool
     ensures { IsTrue result ↔ ((at + 1 < length src.now) × IsHighSurrogate (slice_index src.now at)
@@ -77,9 +78,8 @@ fn is_pair(src: &[u16], at: usize) -> bool
         && is_low_surrogate(src[at + 1])
 }
 
-/// Converts the ASCII prefix of `src` and blocks of other text after it. Returns how many code units it read, how many
-/// bytes it wrote, and whether to go on with the next ones at once. If not, a single character stopped the blocks, or
-/// the end of `src` or `dst` is near.
+/// The third result says whether to go on at once. It is false if a single character stopped the blocks, or the end of
+/// `src` or `dst` is near.
 #[inline(always)]
 fn convert_prefix_and_blocks(src: &[u16], dst: &mut [u8]) -> (usize, usize, bool)
     ensures prefix { IsUtf8OfPrefix src.now result.0 (take result.1 dst.new) }
@@ -108,10 +108,9 @@ fn convert_prefix_and_blocks(src: &[u16], dst: &mut [u8]) -> (usize, usize, bool
     (read + paired, written + extra, paired > 0)
 }
 
-/// Returns how many characters to convert one at a time before trying blocks: all if fewer than eight units are left, and
-/// otherwise `others`, the number of those that stopped the blocks.
+/// Fewer than eight units are no block, so all of them are converted one at a time.
 #[inline(always)]
-fn scalar_budget(left: usize, others: usize) -> usize
+fn characters_before_retry(left: usize, others: usize) -> usize
     ensures { 0 < others → 0 < result }
 {
     if left < HALF_STRIDE {
@@ -121,8 +120,6 @@ fn scalar_budget(left: usize, others: usize) -> usize
     }
 }
 
-/// Converts code units as `convert_utf16_to_utf8_partial_inner` does, except the first `ascii`, which are converted. Out of line, so that
-/// ASCII needs no saved registers.
 #[inline(never)]
 fn convert_after_ascii(src: &[u16], dst: &mut [u8], ascii: usize) -> (usize, usize)
     requires within { ascii ≤ length src.now }
@@ -136,7 +133,7 @@ fn convert_after_ascii(src: &[u16], dst: &mut [u8], ascii: usize) -> (usize, usi
 {
     let mut read = ascii;
     let mut written = ascii;
-    let mut singles = scalar_budget(src.len() - read, 0);
+    let mut singles = characters_before_retry(src.len() - read, 0);
     let end = dst.len().saturating_sub(LONGEST - 1);
     while read < src.len() && written < end {
         if singles == 0 {
@@ -147,7 +144,7 @@ fn convert_after_ascii(src: &[u16], dst: &mut [u8], ascii: usize) -> (usize, usi
             read += units;
             written += bytes;
             if !goes_on {
-                singles = scalar_budget(src.len() - read, 1);
+                singles = characters_before_retry(src.len() - read, 1);
             }
         } else {
             let scalar = scalar_at(Units { src }, read);

@@ -49,7 +49,7 @@ pub const UTF8_DATA: Utf8Data = Utf8Data {
 
 /// What the table says of four bytes. The first three, or all of them, are well-formed if and only if their formula has
 /// one certain value. It never has that value for a first byte of 0x80 to 0xC1 (three bytes) or from 0xF5 on (four).
-#[tactic(auto, using(crate::proofs::TableLemmas::three_is, crate::proofs::TableLemmas::three_never, crate::proofs::TableLemmas::four_is, crate::proofs::TableLemmas::four_never))]
+#[tactic(auto, using(crate::proofs::TableLemmas::formulas))]
 pub fn law_table(lead: u8, second: u8, third: u8, fourth: u8)
     ensures three { 0xE0 ≤ lead → lead ≤ 0xEF
         → (three_byte_formula UTF8_DATA.table lead second third ≡ 2) ↔ IsSequence

@@ -1,5 +1,6 @@
-//! From UTF-8 to UTF-16, and its twin from UTF-8 to UTF-8. A conversion leaves the rest of `dst` unchanged.
-ghost use Rattle.std.specs.Prelude.{◌≡◌, ℕ, ◌+◌, ◌<◌, ◌≤◌, List, length, encode_utf8};
+//! From UTF-8 to UTF-16, and its twin from UTF-8 to UTF-8. What follows the first ASCII is out of line, so that ASCII
+//! needs few registers. A conversion leaves the rest of `dst` unchanged.
+ghost use Rattle.std.specs.Prelude.{◌≡◌, ℕ, ◌+◌, ◌<◌, ◌≤◌, length};
 ghost use Rattle.std.proofs.Common.{arith, rules};
 ghost use Rattle.std.proofs.lemmas.Grind.{common_steps};
 ghost use Rattle.std.proofs.lemmas.Str.{length-encode, len_utf8_bounds};
@@ -18,6 +19,7 @@ use crate::ascii::prefixes::{
     copy_prefix_of_text, copy_to_basic_latin, is_short, unpack_blocks, unpack_rest,
     write_short_ascii_as_units,
 };
+use crate::code_unit::CodeUnit;
 use encoding_kernels::lengths::{LEAST_FOR_VECTORS, SHORT};
 use encoding_kernels::scalar::{decode_utf8_scalar, write_utf16};
 use encoding_kernels::simd::copy::copy_prefix;
@@ -26,31 +28,15 @@ use encoding_kernels::simd::width::{ASCII_END, FOUR_BLOCKS, HALF_BLOCK};
 use encoding_kernels::tuning::{CONVERTED_PIECE, CONVERTED_RUN};
 use encoding_kernels::utf8_to_utf16::text::{convert_short, convert_valid_utf8_to_utf16};
 
-/// What text is converted to: bytes of UTF-8, or code units of UTF-16.
-pub(crate) trait CodeUnit: Copy {
-    // a scalar value in these code units
-    ghost encode: { ℕ → List Self };
-
-    ghost MAX_UNITS: { ℕ };
-
-    /// The most code units that a character takes: the space that a call needs to make progress.
-    const MAX_UNITS: usize;
-
-    /// Converts UTF-8 up to the first byte that is in no character, or as far as whole characters fit. Returns how many
-    /// bytes it read and how many code units it wrote.
+/// Code units that UTF-8 is converted to.
+pub(crate) trait FromUtf8: CodeUnit {
     fn convert_up_to_invalid(src: &[u8], dst: &mut [Self]) -> (usize, usize)
-        ensures { ConvertsUntilFull encode src.now dst.old dst.new result.0 result.1 };
+        ensures { ConvertsUntilFull Self.encode src.now dst.old dst.new result.0 result.1 };
 
-    ghost holds_any: { (c : ℕ) → IsScalar c → length (encode c) ≤ MAX_UNITS };
+    ghost holds_any: { (c : ℕ) → IsScalar c → length (Self.encode c) ≤ Self.MAX_UNITS };
 }
 
-impl CodeUnit for u16 {
-    ghost encode = { encode_utf16 };
-
-    ghost MAX_UNITS = { 2 };
-
-    const MAX_UNITS: usize = 2;
-
+impl FromUtf8 for u16 {
     ghost holds_any = { Prim.search (rules, common_steps) };
 
     #[tactic(auto, using(crate::proofs::ConvertingLemmas::converts_prefix))]
@@ -60,13 +46,7 @@ impl CodeUnit for u16 {
     }
 }
 
-impl CodeUnit for u8 {
-    ghost encode = { encode_utf8 };
-
-    ghost MAX_UNITS = { 4 };
-
-    const MAX_UNITS: usize = 4;
-
+impl FromUtf8 for u8 {
     ghost holds_any = { λ c _. Prim.omega (arith, length-encode c, len_utf8_bounds c) };
 
     /// The characters that fit are those of the prefix that is as long as `dst`.
@@ -83,8 +63,6 @@ impl CodeUnit for u8 {
     }
 }
 
-/// Converts at most 64 bytes to UTF-16 as `convert_utf8_to_utf16_up_to_invalid` does, if `dst` is at least as long. The longest
-/// well-formed prefix of at least eight bytes is found first, and then converted. Out of line, so that ASCII needs few registers.
 #[inline(never)]
 fn convert_short_beyond_ascii(src: &[u8], dst: &mut [u16]) -> (usize, usize)
     requires other { IsAscii src.now → ⊥ }
@@ -109,8 +87,7 @@ fn convert_short_beyond_ascii(src: &[u8], dst: &mut [u16]) -> (usize, usize)
     (valid, written)
 }
 
-/// Converts a text to UTF-16, and returns how many code units it wrote. A turn takes the ASCII prefix, and then other
-/// text up to a run of ASCII.
+/// A turn takes the ASCII prefix, and then other text up to a run of ASCII.
 #[inline(never)]
 pub(crate) fn convert_text(src: &[u8], dst: &mut [u16]) -> usize
     requires dst_length { length src.now ≤ length dst.old }
@@ -132,13 +109,9 @@ pub(crate) fn convert_text(src: &[u8], dst: &mut [u16]) -> usize
     }
 }
 
-/// Converts UTF-8 to UTF-16 as `convert_utf8_to_utf16_up_to_invalid` does, except the first `ascii` bytes, which are converted. Out
-/// of line, so that the ASCII before other text needs few registers.
-///
-/// A turn takes the ASCII prefix, then a well-formed piece that is short enough for its UTF-16 to fit, then one
-/// character. The test for ASCII is its validation, so the ASCII before a piece is read once. In a short source a character before
-/// a long run of ASCII is no piece, since the run would be read twice. In a longer one the validation brings the run into the
-/// nearest cache.
+/// A turn takes the ASCII prefix, a well-formed piece whose UTF-16 fits, and one character. In a short source a
+/// character before a long run of ASCII is no piece, since the run would be read twice. In a longer one the validation
+/// brings the run into the nearest cache.
 #[inline(never)]
 fn convert_turns(src: &[u8], dst: &mut [u16], ascii: usize) -> (usize, usize)
     requires { ConvertsSome encode_utf16 src.now dst.old dst.old ascii ascii }
@@ -180,8 +153,6 @@ fn convert_turns(src: &[u8], dst: &mut [u16], ascii: usize) -> (usize, usize)
     }
 }
 
-/// Converts UTF-8 to UTF-16 as `convert_utf8_to_utf16_up_to_invalid` does, except the first `blocks` bytes, which are ASCII and
-/// converted: the rest of the ASCII prefix, and what follows it by turns. Out of line, so that ASCII needs no saved registers.
 #[inline(never)]
 fn convert_after_blocks(src: &[u8], dst: &mut [u16], blocks: usize) -> (usize, usize)
     requires within { blocks < length src.now }
@@ -206,8 +177,6 @@ fn convert_after_blocks(src: &[u8], dst: &mut [u16], blocks: usize) -> (usize, u
     convert_turns(src, dst, ascii)
 }
 
-/// Converts bytes that aren't all ASCII as `convert_utf8_to_utf16_up_to_invalid` does, if `dst` is at least as long. If they are more
-/// than 64, the first `blocks` are ASCII and converted.
 #[inline(always)]
 pub(crate) fn convert_beyond_ascii(src: &[u8], dst: &mut [u16], blocks: usize) -> (usize, usize)
     requires dst_length { length src.now ≤ length dst.old }
@@ -224,8 +193,7 @@ pub(crate) fn convert_beyond_ascii(src: &[u8], dst: &mut [u16], blocks: usize) -
     }
 }
 
-/// Converts UTF-8 to UTF-16 as `convert_utf8_to_utf16_up_to_invalid` does: blocks of ASCII, and what follows them. Out of line, so
-/// that a short text needs no more registers than it uses. Nothing follows the call at its end, so ASCII needs none saved.
+/// Ends with a tail call, so that ASCII saves no registers.
 #[inline(never)]
 fn convert_after_ascii(src: &[u8], dst: &mut [u16]) -> (usize, usize)
     ensures { ConvertsMaximal encode_utf16 src.now dst.old dst.new result.0 result.1 }

@@ -1,4 +1,5 @@
-//! The longest prefix of bytes that is well-formed UTF-8: one match on the length, and one loop over text and characters.
+//! The longest prefix of bytes that is well-formed UTF-8: one match on the length, and one loop over text and
+//! characters. Two bytes show most malformed sequences, and are tested before any block.
 ghost use Rattle.std.specs.Prelude.{◌<◌, ◌≤◌, false, length, take};
 ghost use Rattle.std.specs.Str.{IsAscii, IsUtf8};
 ghost use Rattle.encoding_definitions.specs.Prefixes.{IsLongestPrefix};
@@ -12,7 +13,6 @@ use encoding_kernels::lengths::{LEAST_FOR_VECTORS, SHORT, TWO_WIDEST_VECTORS};
 use encoding_kernels::simd::width::{ASCII_END, BLOCK, HALF_BLOCK, STRIDE};
 use encoding_kernels::utf8::validate::{well_formed_blocks, well_formed_short};
 
-/// Returns the length of a well-formed prefix: the ASCII prefix, and other text after it as far as vectors validate it.
 #[tactic(auto, using(std::proofs::lemmas::Grind::common_steps, crate::proofs::WholePrefixesLemmas::ascii_texts))]
 #[inline(always)]
 fn well_formed_prefix(src: &[u8]) -> usize
@@ -35,9 +35,8 @@ fn well_formed_prefix(src: &[u8]) -> usize
     well_formed_blocks(src, ascii)
 }
 
-/// Returns the length of the longest well-formed prefix, given that the first `known` bytes are one. If there are more than 64,
-/// these are ASCII, and vectors validate the blocks after them. Then a turn takes a character, and a well-formed prefix of what is
-/// left. Out of line, so that its callers save no registers.
+/// Extends a well-formed prefix of `known` bytes to the longest one. In more than 64 bytes that prefix has to be ASCII:
+/// vectors validate what follows it. Then one character and more vectors by turns.
 #[inline(never)]
 fn valid_after(src: &[u8], known: usize) -> usize
     requires within { known ≤ length src.now }
@@ -58,8 +57,8 @@ fn valid_after(src: &[u8], known: usize) -> usize
     }
 }
 
-/// Returns the length of the longest well-formed prefix of 8 to 64 bytes that aren't all ASCII, by one or two vectors. If
-/// damaged text is expected, two bytes after the ASCII prefix show whether it ends there, before the look-ups.
+/// With `DAMAGED`, first tests two bytes after the ASCII prefix: in damaged text they mostly decide, and the look-ups
+/// are saved.
 #[inline(always)]
 pub(crate) fn valid_up_to_by_vectors<const DAMAGED: bool>(src: &[u8]) -> usize
     requires length { (8 ≤ length src.now) × (length src.now ≤ 64) }
@@ -86,8 +85,7 @@ pub(crate) fn valid_up_to_by_vectors<const DAMAGED: bool>(src: &[u8]) -> usize
     valid_after(src, well_formed)
 }
 
-/// Returns the length of the longest well-formed prefix of more than 64 bytes. Between malformed sequences this is often
-/// some ASCII, which one mask shows. Two vectors show whether at most 128 bytes are all ASCII.
+/// Between malformed sequences there is often some ASCII, which one mask shows.
 #[inline(never)]
 fn long_valid_up_to(src: &[u8]) -> usize
     requires { 64 < length src.now }
@@ -116,8 +114,7 @@ fn long_valid_up_to(src: &[u8]) -> usize
     valid_after(src, ascii)
 }
 
-/// Returns the length of the longest well-formed prefix, by the length of the bytes, which aren't all ASCII if they are at most
-/// 64. Expects malformed sequences. Inline, so that its speed doesn't depend on the addresses of two functions.
+/// Expects malformed sequences. Inline, so that its speed doesn't depend on the addresses of two functions.
 #[inline(always)]
 pub(crate) fn valid_beyond_ascii(src: &[u8]) -> usize
     requires other { (length src.now ≤ 64) × IsAscii src.now → ⊥ }

@@ -1,4 +1,5 @@
-use Rattle.encoding_definitions.proofs.SurrogateLemmas.{repaired_exist, repaired_one, repaired_places, repaired_valid, repaired_twice, repaired_counts, repaired_lossy, valid_stays, valid_spelled, valid_paired}
+use Rattle.encoding_definitions.proofs.SurrogateLemmas.{repaired_exist, repaired_one, repaired_places, repaired_valid, repaired_twice}
+use Rattle.encoding_definitions.proofs.SurrogateLemmas.{repaired_counts, repaired_lossy, valid_stays, valid_spelled, valid_paired}
 use Rattle.encoding_runs.proofs.laws.law_surrogate_repair.Goals as goal
 
 pub returns : goal.returns

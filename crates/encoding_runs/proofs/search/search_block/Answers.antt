@@ -1,10 +1,16 @@
-use Rattle.std.proofs.Common.{◌≡◌, ◌+◌, length, refl, true, true≢false, arith}
+use Rattle.std.proofs.Common.{◌≡◌, ◌+◌, length, ap, refl, subst, true, true≢false, arith, rules}
 use Rattle.std.proofs.lemmas.Bool.Decides.{nat_tests}
 use Rattle.std.proofs.lemmas.List.{length-drop, take_rest}
+use Rattle.encoding_definitions.specs.Sequence.{IsPending}
 use Rattle.encoding_definitions.proofs.PrefixesLemmas.{WritesPrefix-length}
 use Rattle.encoding_runs.specs.declared.search.SearchPiece.TheVariants.{InputEmpty}
 use Rattle.encoding_runs.proofs.SearchLemmas.{done_passed, done_stored, none_found, search_ended}
 use Rattle.encoding_runs.proofs.search.search_block.Goals as goal
+
+pub loop-block-init : goal.loop-block-init
+loop-block-init c =
+    let pending : IsPending c.args.search.now.0 = subst IsPending (ap (λ s. s.0) c.search.view_is) c.search.invariant.1 in
+    search rules
 
 pub returns-in-InputEmpty-clause-block : goal.returns-in-InputEmpty-clause-block
 returns-in-InputEmpty-clause-block c =
@@ -14,7 +20,7 @@ returns-in-InputEmpty-clause-block c =
     let all : c.loop-block.block.read + c.next_piece-read.result.1 ≡ length c.args.src.now =
     omega (arith, step.answer.0, length-drop c.loop-block.block.read c.args.src.now, before.done.2.yielded.within) in
     search_ended _ _ _ _ _ _ _ _ _ c.next_piece-read.new.self.1 done (omega (arith, c.next_piece-read.ensures.offset, before.offset)) true
-    c.in_neutral_state-neutral.ensures.pending
+    (subst IsPending (ap (λ s. s.0) c.search.view_is) c.search.invariant.1)
     ((λ _. (all, step.answer.2)), λ _. refl) (λ e. absurd (true≢false e))
 
 pub loop-block-preserved-in-Malformed : goal.loop-block-preserved-in-Malformed

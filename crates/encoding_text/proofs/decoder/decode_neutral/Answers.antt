@@ -23,7 +23,7 @@ pub end_before-result-requires-clause-no_character : goal.end_before-result-requ
 end_before-result-requires-clause-no_character g c =
     let prefix = c.convert_up_to_invalid-read.ensures in
     let long = WritesPrefix-length _ _ _ _ prefix.writes in
-    rw take_rest (no_character_fits g.U.CodeUnit.encode g.U.CodeUnit.MAX_UNITS g.met.U.CodeUnit.holds_any _ _ _ _ _ prefix
+    rw take_rest (no_character_fits g.U.CodeUnit.encode g.U.CodeUnit.MAX_UNITS g.met.U.FromUtf8.holds_any _ _ _ _ _ prefix
     (omega (arith, c.if-dst-written.false, long)))
 
 pub returns : goal.returns

@@ -46,7 +46,7 @@ returns-in-Rejected-default g c =
 pub returns-in-Complete-default : goal.returns-in-Complete-default
 returns-in-Complete-default g c =
     let r = rw c.in-Complete-default.is-0 at c.resume.ensures in
-    whole_then g.U.CodeUnit.encode g.U.CodeUnit.MAX_UNITS g.met.U.CodeUnit.holds_any _ _ c.in-Complete-default.bytes _ _ _ _ _ _
+    whole_then g.U.CodeUnit.encode g.U.CodeUnit.MAX_UNITS g.met.U.FromUtf8.holds_any _ _ c.in-Complete-default.bytes _ _ _ _ _ _
     c.in-Complete-default.count _ _ _ _ _ c.requires.unfinished
     (omega (arith, c.if-dst-MAX_UNITS.false)) r.1 r.4 r.5 c.convert_up_to_invalid-written.ensures
     (rw (take_rest c.args.src.now c.resume.result.1) at c.decode_neutral-result.ensures)

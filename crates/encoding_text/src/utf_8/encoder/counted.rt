@@ -1,4 +1,5 @@
-//! The encoder's calls with the number of unpaired surrogates that they replaced.
+//! The encoder's calls with the number of unpaired surrogates that they replaced. A second pass over what was read
+//! counts them.
 ghost use Rattle.std.specs.Prelude.{◌≡◌, ◌+◌, ◌-◌, ◌*◌, ◌≤◌, ◌++◌, length, take};
 ghost use Rattle.encoding_definitions.specs.Prefixes.{WritesPrefix};
 ghost use Rattle.encoding_definitions.specs.Surrogates.{HasUnpaired};
@@ -12,8 +13,8 @@ use encoding_kernels::utf16::unpaired::unpaired_of_units;
 impl Utf8Encoder {
     /// `encode_from_utf16_raw`, which also returns how many unpaired surrogates were replaced with U+FFFD.
     ///
-    /// A surrogate that became pending in an earlier call counts in the call that replaces it. So the sum over all calls
-    /// is the number of unpaired surrogates in the whole source.
+    /// A surrogate that became pending in an earlier call counts in the call that replaces it. So the sum over all
+    /// calls is the number of unpaired surrogates in the whole source.
     pub fn encode_from_utf16_with_count(
         &mut self,
         src: &[u16],
@@ -56,8 +57,6 @@ impl Utf8Encoder {
     }
 }
 
-/// Returns the number of unpaired surrogates in the pending one, if there is one, followed by `units`, without the last
-/// `kept` of these.
 fn unpaired_with_pending(pending: Option<u16>, units: &[u16], kept: usize) -> usize
     requires surrogate { IsPendingSurrogate (pending_units pending) }
     requires within { kept ≤ length (pending_units pending ++ units.now) }

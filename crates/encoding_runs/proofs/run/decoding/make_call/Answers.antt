@@ -18,7 +18,7 @@ returns g c =
       call = (
         d.0,
         written_within left c.decode.new.dst c.room_of-room.result c.decode.result.2 d.0 d.1,
-        same_call (DecodeStep g.U.CodeUnit.encode g.U.CodeUnit.need) _ _ _ _ _ _ _ _ _ _ _ _ _ d.2 refl
+        same_call (DecodeStep g.U.CodeUnit.encode g.U.CodeUnit.MAX_UNITS) _ _ _ _ _ _ _ _ _ _ _ _ _ d.2 refl
             (ap (λ n. take n unread) c.piece_length-piece.ensures ∙ take_min turn.take unread) room c.is_marked_last.ensures refl,
       );
     }

@@ -29,8 +29,8 @@ loop-turn-preserved g c =
     let call = c.make_call-answer.ensures.call in
     let before = c.loop-turn.invariant in
     let inside : at < length turns = omega arith in
-    let run = reported_push g.U.CodeUnit.encode g.U.CodeUnit.need _ _ _ _ _ _ _ _ _ turn _ _ _ _ _ _ _ _ before.run call.1 call.2 c.write_report.ensures in
-    let within = call_within g.U.CodeUnit.encode g.U.CodeUnit.need _ (take turn.take unread) _ _ _ _ _ _ call.2.answer in
+    let run = reported_push g.U.CodeUnit.encode g.U.CodeUnit.MAX_UNITS _ _ _ _ _ _ _ _ _ turn _ _ _ _ _ _ _ _ before.run call.1 call.2 c.write_report.ensures in
+    let within = call_within g.U.CodeUnit.encode g.U.CodeUnit.MAX_UNITS _ (take turn.take unread) _ _ _ _ _ _ call.2.answer in
     record {
       run = rw (take_more turns at none inside) run;
       read = omega (arith, within, before.read, length-take {A = ℕ}, length-drop {A = ℕ});
@@ -47,7 +47,7 @@ loop-turn-preserved g c =
 pub returns-clause-delivers : goal.returns-clause-delivers
 returns-clause-delivers g c =
     let all = take_all c.loop-turn.turn-index c.args.turns.now (omega arith) in
-    delivers _ _ _ _ _ _ _ _ _ _ _ c.in_neutral_state-neutral.ensures.pending (rw all at c.loop-turn.invariant.run)
+    delivers _ _ _ _ _ _ _ _ _ _ _ c.pending.ensures.pending (rw all at c.loop-turn.invariant.run)
 
 pub returns-clause-completes : goal.returns-clause-completes
 returns-clause-completes g c =

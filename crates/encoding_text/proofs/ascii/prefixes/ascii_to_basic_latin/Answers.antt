@@ -1,5 +1,7 @@
 use Rattle.std.proofs.Common.{[], Some, take, slice_index, ◌+◌, refl, arith}
-use Rattle.encoding_kernels.proofs.ScanLemmas.{WritesPrefix_copy, first_part, stride_part, group_part, below_more, first_other_in, first_other_first, first_other_at, below_next, copied_first, copied_start, fitting_room, found_fitting, found_none, copied_fitting, copied_all}
+use Rattle.encoding_kernels.proofs.ScanLemmas.{WritesPrefix_copy, first_part, stride_part, group_part, below_more}
+use Rattle.encoding_kernels.proofs.ScanLemmas.{first_other_in, first_other_first, first_other_at, below_next, copied_first}
+use Rattle.encoding_kernels.proofs.ScanLemmas.{copied_start, fitting_room, found_fitting, found_none, copied_fitting, copied_all}
 use Rattle.encoding_definitions.proofs.PrefixesLemmas.{WritesPrefix-length}
 use Rattle.encoding_text.proofs.ascii.prefixes.ascii_to_basic_latin.Goals as goal
 

@@ -3,7 +3,8 @@ use Rattle.encoding_kernels.specs.Scans.{BelowUpTo}
 use Rattle.encoding_kernels.proofs.ScanLemmas.{Each-take, prefix_before}
 use Rattle.encoding_text.proofs.WholePrefixesLemmas.{prefix_on}
 use Rattle.encoding_text.proofs.ascii.prefixes.ascii_valid_up_to_by_length.Goals as goal
-use Rattle.encoding_text.proofs.ascii.prefixes.ascii_valid_up_to_by_length.Goals.{then-this-lt-BLOCK+else-bytes-lt-BLOCK+else-first-lt-BLOCK, else-this-lt-BLOCK}
+use Rattle.encoding_text.proofs.ascii.prefixes.ascii_valid_up_to_by_length.Goals.{then-this-lt-BLOCK+else-bytes-lt-BLOCK+else-first-lt-BLOCK}
+use Rattle.encoding_text.proofs.ascii.prefixes.ascii_valid_up_to_by_length.Goals.{else-this-lt-BLOCK}
 
 pub returns-then-bytes-lt-BLOCK : goal.returns-then-bytes-lt-BLOCK
 returns-then-bytes-lt-BLOCK g c =

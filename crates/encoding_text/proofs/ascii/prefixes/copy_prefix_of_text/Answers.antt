@@ -3,7 +3,8 @@ use Rattle.std.specs.Str.{IsAscii}
 use Rattle.std.proofs.lemmas.List.{take_rest, length-take, take-take}
 use borrow.Rule.Slice.PartMut.{put_mid}
 use Rattle.encoding_definitions.specs.Prefixes.{IsLongestPrefix, WritesPrefix}
-use Rattle.encoding_kernels.proofs.Utf8ToUtf16LoopLemmas.{Putting, due_ascii, putting_more, putting_prefix, putting_some, unpacked_none, unpacked_part, unpacked_prefix}
+use Rattle.encoding_kernels.proofs.Utf8ToUtf16LoopLemmas.{Putting, due_ascii, putting_more, putting_prefix}
+use Rattle.encoding_kernels.proofs.Utf8ToUtf16LoopLemmas.{putting_some, unpacked_none, unpacked_part, unpacked_prefix}
 use Rattle.encoding_kernels.specs.Scans.{IsRunBelow}
 use Rattle.encoding_text.proofs.ascii.prefixes.copy_prefix_of_text.Goals as goal
 

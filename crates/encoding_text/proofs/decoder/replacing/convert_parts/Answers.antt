@@ -1,7 +1,9 @@
 use Rattle.std.proofs.Common.{◌+◌, drop, arith}
 use Rattle.std.proofs.lemmas.List.{take_rest, length-drop, length-take}
 use Rattle.encoding_text.proofs.CallLemmas.{malformed_some}
-use Rattle.encoding_text.proofs.ReplacingLemmas.{left_after, none_fits_character, none_fits_end, none_fits_replacement, parts_converted, parts_empty, parts_full, parts_none, parts_replaced, parts_reported, replaced_within, report_reads, room_after, written_within}
+use Rattle.encoding_text.proofs.ReplacingLemmas.{left_after, none_fits_character, none_fits_end, none_fits_replacement}
+use Rattle.encoding_text.proofs.ReplacingLemmas.{parts_converted, parts_empty, parts_full, parts_none, parts_replaced}
+use Rattle.encoding_text.proofs.ReplacingLemmas.{parts_reported, replaced_within, report_reads, room_after, written_within}
 use Rattle.encoding_text.proofs.decoder.replacing.convert_parts.Goals as goal
 
 pub loop-dst-init : goal.loop-dst-init

@@ -5,7 +5,8 @@ use Rattle.encoding_kernels.proofs.BidiLemmas.{units_joined, unit_none}
 use Rattle.encoding_text.proofs.mem.bidi.is_utf16_bidi.Goals as goal
 
 pub loop-i-init : goal.loop-i-init
-loop-i-init c = units_joined c.args.buffer.now 0 c.loop-at.at c.loop-at.at _ c.loop-at.invariant.none c.skip_by_vectors-from.ensures.no_rtl (omega arith)
+loop-i-init c =
+    units_joined c.args.buffer.now 0 c.loop-at.at c.loop-at.at _ c.loop-at.invariant.none c.skip_by_vectors-from.ensures.no_right_to_left (omega arith)
 
 pub returns-then-is_utf16_code_unit_bidi : goal.returns-then-is_utf16_code_unit_bidi
 returns-then-is_utf16_code_unit_bidi c =

@@ -42,28 +42,28 @@ returns-then-prefix-rest c =
     let clear = ascii_text _ _ prefix.within (below_prefix _ _ prefix) in
     (λ e. absurd (cc), λ b. absurd (clear_none c.loop-rest.rest.now _ (omega arith) clear (c.loop-rest.invariant.1 b)))
 
-pub returns-then-is_text_bidi : goal.returns-then-is_text_bidi
-returns-then-is_text_bidi c =
+pub returns-then-has_right_to_left : goal.returns-then-has_right_to_left
+returns-then-has_right_to_left c =
     let same = after_ascii _ _ _ c.loop-rest.invariant c.ascii_valid_up_to_by_length-prefix.ensures in
-    (λ _. same.0 (found_in_bytes _ 0 _ (omega arith) IsUtf8-nil ((c.if-is_text_bidi.ensures {u = tt}).0 refl)), λ _. refl)
+    (λ _. same.0 (found_in_bytes _ 0 _ (omega arith) IsUtf8-nil ((c.if-has_right_to_left.ensures {u = tt}).0 refl)), λ _. refl)
 
 pub returns-then-is_empty : goal.returns-then-is_empty
 returns-then-is_empty c =
     let same = after_piece _ _ _ _ _ c.loop-rest.invariant c.ascii_valid_up_to_by_length-prefix.ensures c.utf8_valid_up_to-valid.ensures
-    (λ b. let e = (c.if-is_text_bidi.ensures {u = tt}).1 b in cc) in
+    (λ b. let e = (c.if-has_right_to_left.ensures {u = tt}).1 b in cc) in
     (λ e. absurd (cc), λ b. absurd (empty_clear _ (eqb-true _ _ (sym c.is_empty.ensures ∙ c.if-is_empty.true)) (same.1 b)))
 
 pub returns-in_default : goal.returns-in_default
 returns-in_default c =
     let same = after_piece _ _ _ _ _ c.loop-rest.invariant c.ascii_valid_up_to_by_length-prefix.ensures c.utf8_valid_up_to-valid.ensures
-    (λ b. let e = (c.if-is_text_bidi.ensures {u = tt}).1 b in cc) in
+    (λ b. let e = (c.if-has_right_to_left.ensures {u = tt}).1 b in cc) in
     let some = eqb-false _ _ (sym c.is_empty.ensures ∙ c.if-is_empty.false) in
     (λ _. same.0 (inl (rejected_no_text _ 0 (omega (arith, some)) IsUtf8-nil c.in_default.ensures.no_character)), λ _. refl)
 
 pub returns-then-is_right_to_left : goal.returns-then-is_right_to_left
 returns-then-is_right_to_left c =
     let same = after_piece _ _ _ _ _ c.loop-rest.invariant c.ascii_valid_up_to_by_length-prefix.ensures c.utf8_valid_up_to-valid.ensures
-    (λ b. let e = (c.if-is_text_bidi.ensures {u = tt}).1 b in cc) in
+    (λ b. let e = (c.if-has_right_to_left.ensures {u = tt}).1 b in cc) in
     let scalar = c.decode_utf8_scalar.ensures in
     let found = character_bidi _ _ scalar.scalar scalar.spelled ((c.if-is_right_to_left.ensures {u = tt}).0 refl) in
     (λ _. same.0 (found_in_bytes _ 0 _ (omega arith) IsUtf8-nil found), λ _. refl)
@@ -71,7 +71,7 @@ returns-then-is_right_to_left c =
 pub loop-rest-preserved : goal.loop-rest-preserved
 loop-rest-preserved c =
     let same = after_piece _ _ _ _ _ c.loop-rest.invariant c.ascii_valid_up_to_by_length-prefix.ensures c.utf8_valid_up_to-valid.ensures
-    (λ b. let e = (c.if-is_text_bidi.ensures {u = tt}).1 b in cc) in
+    (λ b. let e = (c.if-has_right_to_left.ensures {u = tt}).1 b in cc) in
     let found = c.in-Some.ensures.length in
     let step = after _ _ found.1 (
       IsUtf8-sequence _ found.2,

@@ -2,7 +2,11 @@ use Rattle.std.proofs.Common.{arith}
 use Rattle.std.proofs.lemmas.Bool.{both_ways}
 use Rattle.encoding_definitions.proofs.Latin1Lemmas.{latin1_more_one, latin1_more_two, latin1_stop}
 use Rattle.encoding_text.proofs.mem.checks.longest_latin1.Goals as goal
-use Rattle.encoding_text.proofs.mem.checks.longest_latin1.Goals.{then-byte-lt-LATIN1_LEAD-via-then-byte-lt-LATIN1_LEAD, then-byte-lt-LATIN1_LEAD-via-else-byte-lt-LATIN1_LEAD+then-byte-ge-BEYOND_LATIN1, then-byte-lt-LATIN1_LEAD-via-else-byte-lt-LATIN1_LEAD+else-byte-ge-BEYOND_LATIN1+then-read-buffer}
+use Rattle.encoding_text.proofs.mem.checks.longest_latin1.Goals.{then-byte-lt-LATIN1_LEAD-via-then-byte-lt-LATIN1_LEAD}
+use Rattle.encoding_text.proofs.mem.checks.longest_latin1.Goals.{then-byte-lt-LATIN1_LEAD-via-else-byte-lt-LATIN1_LEAD+then-byte-ge-BEYOND_LATIN1}
+use Rattle.encoding_text.proofs.mem.checks.longest_latin1.Goals.{
+  then-byte-lt-LATIN1_LEAD-via-else-byte-lt-LATIN1_LEAD+else-byte-ge-BEYOND_LATIN1+then-read-buffer,
+}
 
 pub loop-read-preserved-then-byte-lt128 : goal.loop-read-preserved-then-byte-lt128
 loop-read-preserved-then-byte-lt128 c = record {

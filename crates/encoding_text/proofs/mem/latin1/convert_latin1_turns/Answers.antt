@@ -8,7 +8,8 @@ use Rattle.encoding_kernels.proofs.OverwriteLemmas.{ascii_left}
 use Rattle.encoding_text.proofs.Latin1ConversionLemmas.{latin1_bytes_two, latin1_fits_all, latin1_fits_stop, latin1_turn, had_prefix}
 use Rattle.encoding_text.proofs.WholePrefixesLemmas.{other_after}
 use Rattle.encoding_text.proofs.mem.latin1.convert_latin1_turns.Goals as goal
-use Rattle.encoding_text.proofs.mem.latin1.convert_latin1_turns.Goals.{then-read-src-via-then-read-src, then-read-src-via-else-read-src+then-dst-written-lt-HIGH_LENGTH}
+use Rattle.encoding_text.proofs.mem.latin1.convert_latin1_turns.Goals.{then-read-src-via-then-read-src}
+use Rattle.encoding_text.proofs.mem.latin1.convert_latin1_turns.Goals.{then-read-src-via-else-read-src+then-dst-written-lt-HIGH_LENGTH}
 use Rattle.encoding_text.proofs.OneResultLemmas.{length-encode-some}
 
 pub loop-read-init : goal.loop-read-init

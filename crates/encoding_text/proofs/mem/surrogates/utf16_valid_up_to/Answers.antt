@@ -4,7 +4,13 @@ use Rattle.encoding_kernels.proofs.PairsLemmas.{paired_joined, paired_clear}
 use Rattle.encoding_kernels.proofs.ScanLemmas.{group_part}
 use Rattle.encoding_definitions.proofs.SurrogateLemmas.{valid_more_one, valid_more_two, valid_stop}
 use Rattle.encoding_text.proofs.mem.surrogates.utf16_valid_up_to.Goals as goal
-use Rattle.encoding_text.proofs.mem.surrogates.utf16_valid_up_to.Goals.{then-expected-gt0+else-not-are_paired, else-expected-gt0+else-is_after_high_surrogate+else-not-has_no_surrogate, then-not-is_high_surrogate-via-then-not-is_high_surrogate, then-not-is_high_surrogate-via-else-not-is_high_surrogate+then-at-buffer, then-not-is_high_surrogate-via-else-not-is_high_surrogate+else-at-buffer+then-not-is_low_surrogate}
+use Rattle.encoding_text.proofs.mem.surrogates.utf16_valid_up_to.Goals.{then-expected-gt0+else-not-are_paired}
+use Rattle.encoding_text.proofs.mem.surrogates.utf16_valid_up_to.Goals.{else-expected-gt0+else-is_after_high_surrogate+else-not-has_no_surrogate}
+use Rattle.encoding_text.proofs.mem.surrogates.utf16_valid_up_to.Goals.{then-not-is_high_surrogate-via-then-not-is_high_surrogate}
+use Rattle.encoding_text.proofs.mem.surrogates.utf16_valid_up_to.Goals.{then-not-is_high_surrogate-via-else-not-is_high_surrogate+then-at-buffer}
+use Rattle.encoding_text.proofs.mem.surrogates.utf16_valid_up_to.Goals.{
+  then-not-is_high_surrogate-via-else-not-is_high_surrogate+else-at-buffer+then-not-is_low_surrogate,
+}
 
 pub loop-four-preserved : goal.loop-four-preserved
 loop-four-preserved c =

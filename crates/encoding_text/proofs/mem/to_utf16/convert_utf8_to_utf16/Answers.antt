@@ -2,7 +2,8 @@ use Rattle.std.proofs.Common.{arith, length}
 use Rattle.std.specs.Char.Escape.{encode_utf16}
 use Rattle.std.proofs.lemmas.List.{drop_all, take_all}
 use Rattle.encoding_definitions.proofs.PrefixesLemmas.{WritesPrefix_over}
-use Rattle.encoding_text.proofs.ConvertingLemmas.{ascii_written, converted_again, converted_start, converts_all, converts_prefix, converts_valid, of_whole_prefix}
+use Rattle.encoding_text.proofs.ConvertingLemmas.{ascii_written, converted_again, converted_start, converts_all}
+use Rattle.encoding_text.proofs.ConvertingLemmas.{converts_prefix, converts_valid, of_whole_prefix}
 use Rattle.encoding_text.proofs.Latin1ConversionLemmas.{ascii_taken}
 use Rattle.encoding_text.proofs.RepairingLemmas.{replaced_all, replaced_first}
 use Rattle.encoding_text.proofs.WholePrefixesLemmas.{whole_text}

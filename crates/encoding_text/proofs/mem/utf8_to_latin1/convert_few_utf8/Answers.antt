@@ -5,7 +5,8 @@ use Rattle.encoding_definitions.specs.Prefixes.{WritesPrefix}
 use Rattle.encoding_definitions.proofs.Latin1Lemmas.{latin1_chars}
 use Rattle.encoding_definitions.proofs.PrefixesLemmas.{WritesPrefix_over}
 use Rattle.encoding_text.proofs.mem.utf8_to_latin1.convert_few_utf8.Goals as goal
-use Rattle.encoding_text.proofs.mem.utf8_to_latin1.convert_few_utf8.Goals.{then-src-gt-STRIDE+then-read-src+then-src-read-lt-STRIDE+in_default, else-src-gt-STRIDE}
+use Rattle.encoding_text.proofs.mem.utf8_to_latin1.convert_few_utf8.Goals.{then-src-gt-STRIDE+then-read-src+then-src-read-lt-STRIDE+in_default}
+use Rattle.encoding_text.proofs.mem.utf8_to_latin1.convert_few_utf8.Goals.{else-src-gt-STRIDE}
 
 pub convert_utf8_blocks-read-requires-clause-rest : goal.convert_utf8_blocks-read-requires-clause-rest
 convert_utf8_blocks-read-requires-clause-rest c = sym (latin1_chars c.args.src.now c.requires.latin1).1

@@ -1,4 +1,5 @@
-use Rattle.std.proofs.Common.{◌≡◌, ◌∙◌, ℕ, ◌+◌, ◌-◌, ◌<◌, ◌≤◌, ◌⊎◌, inl, inr, zero, suc, List, ◌++◌, ap, arith, drop, encode_utf8_all, length, length-append, refl, replicate, slice_index, subst, sym, take}
+use Rattle.std.proofs.Common.{◌≡◌, ◌∙◌, ℕ, ◌+◌, ◌-◌, ◌<◌, ◌≤◌, ◌⊎◌, inl, inr, zero, suc, List, ◌++◌, ap, arith, drop}
+use Rattle.std.proofs.Common.{encode_utf8_all, length, length-append, refl, replicate, slice_index, subst, sym, take}
 use Rattle.std.specs.Str.{chars}
 use Rattle.std.proofs.lemmas.Bool.{cases_lt}
 use Rattle.std.proofs.lemmas.List.{drop-replicate, get_or_append_left, get_or-append_right, length-drop, length-take-le, take-take, take_at}

@@ -2,7 +2,8 @@ use Rattle.std.proofs.Common.{◌∷◌, ◌<◌, length, arith, refl, rules}
 use Rattle.encoding_definitions.proofs.Utf16PrefixLemmas.{scalar_of_two, scalar_of_unpaired}
 use Rattle.encoding_text.proofs.EncoderLemmas.{none_there}
 use Rattle.encoding_text.proofs.utf_8.encoder.first_with_pending.Goals as goal
-use Rattle.encoding_text.proofs.utf_8.encoder.first_with_pending.Goals.{else-not-is_empty-via-then-not-is_empty+else-is_low_surrogate, else-not-is_empty-via-else-not-is_empty}
+use Rattle.encoding_text.proofs.utf_8.encoder.first_with_pending.Goals.{else-not-is_empty-via-then-not-is_empty+else-is_low_surrogate}
+use Rattle.encoding_text.proofs.utf_8.encoder.first_with_pending.Goals.{else-not-is_empty-via-else-not-is_empty}
 
 pub returns-then-is_low_surrogate-clause-scalar : goal.returns-then-is_low_surrogate-clause-scalar
 returns-then-is_low_surrogate-clause-scalar c =

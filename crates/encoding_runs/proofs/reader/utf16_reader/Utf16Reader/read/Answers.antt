@@ -20,10 +20,10 @@ returns-clause-characters g c =
           let same = ap half_of w.self-is in
           yields_held IsValidUtf16 IsUtf16Character
           (valid-encode [] [] refl refl) valid_character c.if-is_empty-2.self.held _ _ _ _ give.bytes give.copied_length
-          give.dst_length held (λ some. absurd (some none)) (λ _ some. subst IsUtf16Character (sym same) (w.hold.ensures.one (λ e. some (same ∙ e))))
+          give.same_length held (λ some. absurd (some none)) (λ _ some. subst IsUtf16Character (sym same) (w.hold.ensures.one (λ e. some (same ∙ e))))
       | else-is_empty-2 w ↦
           yields_held IsValidUtf16 IsUtf16Character
           (valid-encode [] [] refl refl) valid_character c.if-is_empty-2.self.held _ _ _ _ give.bytes give.copied_length
-          give.dst_length held (λ _. sym (ap half_of w.self-is))
+          give.same_length held (λ _. sym (ap half_of w.self-is))
           (λ none. absurd (both_ways _ w.if-is_empty-2.false (c.is_empty-2.ensures ∙ ap (λ bs. length bs == 0) (c.unread.ensures.value ∙ none))))
     ]

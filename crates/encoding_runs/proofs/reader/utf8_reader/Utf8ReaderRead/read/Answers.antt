@@ -19,10 +19,10 @@ returns-clause-characters g c =
           let none : held ≡ [] =
           nil_from_length held (ap length (sym c.unread.ensures.value) ∙ eqb-true _ _ (sym c.is_empty-2.ensures ∙ w.if-is_empty-2.true)) in
           let same = ap held_of w.self-is in
-          yields_held IsUtf8 IsSequence IsUtf8-nil IsUtf8-sequence c.if-is_empty-2.self.held _ _ _ _ give.bytes give.copied_length give.dst_length held
+          yields_held IsUtf8 IsSequence IsUtf8-nil IsUtf8-sequence c.if-is_empty-2.self.held _ _ _ _ give.bytes give.copied_length give.same_length held
           (λ some. absurd (some none)) (λ _ some. subst IsSequence (sym same) (w.hold.ensures.one (λ e. some (same ∙ e))))
       | else-is_empty-2 w ↦
-          yields_held IsUtf8 IsSequence IsUtf8-nil IsUtf8-sequence c.if-is_empty-2.self.held _ _ _ _ give.bytes give.copied_length give.dst_length held
+          yields_held IsUtf8 IsSequence IsUtf8-nil IsUtf8-sequence c.if-is_empty-2.self.held _ _ _ _ give.bytes give.copied_length give.same_length held
           (λ _. sym (ap held_of w.self-is))
           (λ none. absurd (both_ways _ w.if-is_empty-2.false (c.is_empty-2.ensures ∙ ap (λ bs. length bs == 0) (c.unread.ensures.value ∙ none))))
     ]

@@ -7,7 +7,8 @@ use Rattle.encoding_text.specs.Encoding.{IsPendingSurrogate, pending_units}
 use Rattle.encoding_text.proofs.EncoderCountLemmas.{counts_pending, counts_pair, counts_unpaired}
 use Rattle.encoding_text.proofs.EncoderLemmas.{none_there}
 use Rattle.encoding_text.proofs.utf_8.encoder.counted.unpaired_with_pending.Goals as goal
-use Rattle.encoding_text.proofs.utf_8.encoder.counted.unpaired_with_pending.Goals.{else-not-is_empty-via-then-not-is_empty+else-is_low_surrogate, else-not-is_empty-via-else-not-is_empty}
+use Rattle.encoding_text.proofs.utf_8.encoder.counted.unpaired_with_pending.Goals.{else-not-is_empty-via-then-not-is_empty+else-is_low_surrogate}
+use Rattle.encoding_text.proofs.utf_8.encoder.counted.unpaired_with_pending.Goals.{else-not-is_empty-via-else-not-is_empty}
 
 pub returns-then-is_empty : goal.returns-then-is_empty
 returns-then-is_empty c =

@@ -1,9 +1,9 @@
 use Rattle.std.proofs.Common.{arith, refl}
 use Rattle.encoding_kernels.proofs.BidiLemmas.{none_joined, none_before, bidi_of_place, place_of_bidi}
-use Rattle.encoding_text.proofs.mem.bidi.is_text_bidi.Goals as goal
+use Rattle.encoding_text.proofs.mem.bidi.has_right_to_left.Goals as goal
 
-pub returns-then-stands_between : goal.returns-then-stands_between
-returns-then-stands_between c = let found = c.if-stands_between.ensures.found refl in
+pub returns-then-has_right_to_left_between : goal.returns-then-has_right_to_left_between
+returns-then-has_right_to_left_between c = let found = c.if-has_right_to_left_between.ensures.found refl in
     (λ e. bidi_of_place c.args.bytes.now found.0 c.requires found.1 found.2, λ b. refl)
 
 pub loop-at-preserved : goal.loop-at-preserved
@@ -13,7 +13,7 @@ loop-at-preserved c =
     record {
       within = omega (arith, c.min.ensures);
       none = none_joined bs 0 place _ (none_joined bs 0 c.loop-at.at place c.loop-at.invariant.none c.skip_clear-from.ensures.no_rtl)
-          (c.if-stands_between.ensures.no_rtl refl);
+          (c.if-has_right_to_left_between.ensures.no_right_to_left refl);
     }
 
 pub returns : goal.returns

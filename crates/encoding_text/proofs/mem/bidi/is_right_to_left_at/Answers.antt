@@ -3,10 +3,11 @@ use Rattle.std.proofs.lemmas.List.{take_rest}
 use Rattle.encoding_definitions.specs.Sequence.{IsSequence}
 use Rattle.encoding_definitions.proofs.BidiTextLemmas.{character_bidi, bidi_character}
 use Rattle.encoding_kernels.proofs.BidiLemmas.{none_from_zero, no_character_stands, stands_spelled, spelled_stands}
-use Rattle.encoding_text.proofs.mem.bidi.stands_at.Goals as goal
+use Rattle.encoding_text.proofs.mem.bidi.is_right_to_left_at.Goals as goal
 
-pub returns-then-not-may_start_rtl : goal.returns-then-not-may_start_rtl
-returns-then-not-may_start_rtl c = (λ e. absurd (cc), λ s. absurd (none_from_zero c.args.bytes.now c.args.at (c.if-not-may_start_rtl.ensures refl) s))
+pub returns-then-not-may_start_right_to_left : goal.returns-then-not-may_start_right_to_left
+returns-then-not-may_start_right_to_left c =
+    (λ e. absurd (cc), λ s. absurd (none_from_zero c.args.bytes.now c.args.at (c.if-not-may_start_right_to_left.ensures refl) s))
 
 pub returns-in_default : goal.returns-in_default
 returns-in_default c = (λ e. absurd (cc), λ s. absurd (no_character_stands c.args.bytes.now c.args.at (rw take_rest at c.in_default.ensures.no_character) s))

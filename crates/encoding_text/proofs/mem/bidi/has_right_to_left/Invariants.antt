@@ -1,6 +1,6 @@
 use Rattle.std.proofs.Common.{◌-◌, ◌≤◌, length}
 use Rattle.encoding_kernels.specs.RightToLeft.{NoRtlIn}
-use Rattle.encoding_text.proofs.mem.bidi.is_text_bidi.Given as goal
+use Rattle.encoding_text.proofs.mem.bidi.has_right_to_left.Given as goal
 
 abbrev pub invariant-loop-at : goal.invariant-loop-at
 invariant-loop-at l = record { within : l.at ≤ length l.bytes; none : NoRtlIn l.bytes 0 l.at }
