@@ -17,6 +17,8 @@ pub mod SniffCallLemmas
 pub mod ReplacingCallLemmas
 pub mod DecoderChainLemmas
 pub mod TextDestinationLemmas
+pub mod PendingStepLemmas
+pub mod PendingCallLemmas
 pub mod ExactLemmas
 pub mod ExactReplacingLemmas
 pub mod DecoderResultLemmas
