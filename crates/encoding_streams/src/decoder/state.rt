@@ -33,8 +33,7 @@ fn is_pending_in(encoding: Encoding, bytes: &[u8]) -> bool
     ensures no { result ≡ false → IsPendingIn encoding bytes.now → ⊥ }
 {
     let mut inner = Inner::new(encoding);
-    let mut dst = [0u16; 2];
-    let (_, _, _) = u16::decode(&mut inner, bytes, &mut dst, false);
+    u16::decode(&mut inner, bytes, &mut [0; 2], false);
     inner.pending_length() == bytes.len()
 }
 
