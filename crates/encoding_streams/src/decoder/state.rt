@@ -1,5 +1,6 @@
 //! What a decoder keeps between calls, and its calls that report malformed sequences.
 ghost use Rattle.std.specs.Prelude.{take, ◌≢◌, ◌⊎◌, ◌-◌, false, ◌≡◌, ◌↔◌, ℕ, ◌<◌, ◌≤◌, true, List, [], ◌++◌, length, IsTrue};
+ghost use Rattle.encoding_definitions.specs.Sequence.{IsIncomplete};
 ghost use Rattle.encoding_streams.specs.Decoders.{decoding};
 ghost use Rattle.encoding_streams.specs.DecoderSteps.{IsSniffed, IsStop, LeavesFree, Reports, shown, state_of};
 ghost use Rattle.encoding_streams.specs.ExactCalls.{AreReportLengths, Decodes, IsExactCall, IsIdle, IsPendingIn, IsPendingOf, reported_with};
@@ -8,6 +9,7 @@ use super::inner::{Inner, Output};
 use super::is_utf8;
 use crate::encoding::{BomHandling, Encoding, begins_mark, found_mark, mark_length};
 use crate::utf16_decoder::pending::Pending;
+use encoding_kernels::scalar::{begins_several, is_continuation, is_second};
 use encoding_text::decoder::DecoderResult;
 
 /// The encoding, the marks that are looked for, and the bytes that were read and are still to be decoded.
@@ -27,11 +29,29 @@ pub(crate) fn is_off(bom: BomHandling) -> bool
     matches!(bom, BomHandling::Off)
 }
 
+/// Returns whether the bytes are an incomplete sequence.
+fn is_incomplete(bytes: &[u8]) -> bool
+    ensures yes { result ≡ true → IsIncomplete bytes.now }
+    ensures no { result ≡ false → IsIncomplete bytes.now → ⊥ }
+{
+    match *bytes {
+        [first] => begins_several(first),
+        [first, second] => first >= 0xE0 && is_second(first, second),
+        [first, second, third] => {
+            first >= 0xF0 && is_second(first, second) && is_continuation(third)
+        }
+        _ => false,
+    }
+}
+
 /// Returns whether the bytes are none or the start of a character of the encoding.
 fn is_pending_in(encoding: Encoding, bytes: &[u8]) -> bool
     ensures yes { result ≡ true → IsPendingIn encoding bytes.now }
     ensures no { result ≡ false → IsPendingIn encoding bytes.now → ⊥ }
 {
+    if is_utf8(encoding) {
+        return bytes.is_empty() || is_incomplete(bytes);
+    }
     let mut inner = Inner::new(encoding);
     u16::decode(&mut inner, bytes, &mut [0; 2], false);
     inner.pending_length() == bytes.len()
