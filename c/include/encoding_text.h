@@ -687,7 +687,7 @@ encoding_text_decoder_result encoding_text_utf16_decoder_decode_to_utf8(encoding
 
 /** The state of a decoder between calls, in the caller's storage. The first `count` bytes of `pending`, one to three, were
  * read and are still to be decoded; the bytes after them don't matter. While a mark is looked for they are the start of
- * one. With any other `pending` and `count` (for example all zero) nothing is pending. */
+ * one, and otherwise of a character. With any other `pending` and `count` (for example all zero) nothing is pending. */
 typedef struct {
     uint8_t pending[3]; /**< bytes that are still to be decoded */
     uint8_t count;      /**< their number */
@@ -749,7 +749,8 @@ size_t encoding_text_decoder_latin1_byte_compatible_up_to(const encoding_text_de
 /** Decodes the pending bytes and then src, with U+FFFD for each malformed sequence. Only whole characters are written. If
  * dst has space for two code units (four bytes in UTF-8) and src isn't empty, the call reads or writes: characters of the
  * pending bytes may take the space, and then nothing of src is read. With less space left, a character of pending bytes or
- * U+FFFD may wait for the next call though it fits.
+ * U+FFFD may wait for the next call though it fits. A call that ends with ENCODING_TEXT_OUTPUT_FULL, and reads and writes
+ * nothing, leaves the decoder as it was.
  * @param decoder the decoder, in the caller's storage.
  * @param src,src_length the source, in bytes.
  * @param dst,dst_length the destination, in code units.
@@ -766,7 +767,8 @@ encoding_text_coder_result encoding_text_decoder_decode_to_utf8(encoding_text_de
 /** Decodes the pending bytes and then src. A malformed sequence is reported, and nothing is written for it: call again with
  * the unread bytes. If dst has space for two code units (four bytes in UTF-8) and src isn't empty, the call reads, writes
  * or reports: characters of the pending bytes may take the space, and then nothing of src is read. With less space left, a
- * character of pending bytes or a report may wait for the next call though it fits.
+ * character of pending bytes or a report may wait for the next call though it fits. A call that ends with
+ * ENCODING_TEXT_OUTPUT_FULL, and reads and writes nothing, leaves the decoder as it was.
  * @param decoder the decoder, in the caller's storage.
  * @param src,src_length the source, in bytes.
  * @param dst,dst_length the destination, in code units.

@@ -77,6 +77,11 @@ static void storage(void)
     CHECK(coded_is(encoding_text_decoder_decode_to_utf16(&decoder, letter, 2, fresh_units(), 4, false), 2, 1, 0,
                    ENCODING_TEXT_INPUT_EMPTY));
     CHECK(units_are(1, 0x61) && stream_decoder_is(&decoder, "", 0, ENCODING_TEXT_UTF_16LE, ENCODING_TEXT_BOM_OFF));
+    /* if none is, a whole character isn't, nor a byte that is malformed */
+    decoder = stream_decoder_with("\xEF\xBB", 2, ENCODING_TEXT_UTF_16LE, ENCODING_TEXT_BOM_OFF);
+    CHECK(encoding_text_decoder_in_neutral_state(&decoder));
+    decoder = stream_decoder_with("\xFE", 1, ENCODING_TEXT_UTF_8, ENCODING_TEXT_BOM_OFF);
+    CHECK(encoding_text_decoder_in_neutral_state(&decoder));
 }
 
 static void lengths_of_streams(void)
@@ -202,6 +207,29 @@ static void pending_bytes_take_space(void)
     CHECK(units_are(1, 0xBBEF));
 }
 
+/* A call that is full, and reads and writes nothing, leaves the decoder as it was. */
+static void full_destinations_change_nothing(void)
+{
+    const uint8_t letter[] = {0x61, 0x00};
+    encoding_text_decoder decoder = stream_decoder_with("\xEF\xBB", 2, ENCODING_TEXT_UTF_16LE, ENCODING_TEXT_BOM_SNIFF);
+
+    CHECK(coded_is(encoding_text_decoder_decode_to_utf16(&decoder, ALL(letter), fresh_units(), 0, false), 0, 0, 0,
+                   ENCODING_TEXT_OUTPUT_FULL));
+    CHECK(stream_decoder_is(&decoder, BYTES("\xEF\xBB"), ENCODING_TEXT_UTF_16LE, ENCODING_TEXT_BOM_SNIFF));
+    CHECK(coded_is(encoding_text_decoder_decode_to_utf16(&decoder, ALL(letter), fresh_units(), 2, true), 2, 2, 0,
+                   ENCODING_TEXT_INPUT_EMPTY));
+    CHECK(units_are(2, 0xBBEF, 0x61) && encoding_text_decoder_in_neutral_state(&decoder));
+    decoder = stream_decoder_with("\xFE", 1, ENCODING_TEXT_UTF_8, ENCODING_TEXT_BOM_SNIFF);
+    CHECK(utf16_decoded_is(
+        encoding_text_decoder_decode_to_utf8_without_replacement(&decoder, letter, 1, fresh_bytes(), 3, false), 0, 0,
+        ENCODING_TEXT_OUTPUT_FULL, 0, 0));
+    CHECK(stream_decoder_is(&decoder, BYTES("\xFE"), ENCODING_TEXT_UTF_8, ENCODING_TEXT_BOM_SNIFF));
+    CHECK(utf16_decoded_is(
+        encoding_text_decoder_decode_to_utf8_without_replacement(&decoder, letter, 1, fresh_bytes(), 4, false), 0, 0,
+        ENCODING_TEXT_MALFORMED, 1, 0));
+    CHECK(encoding_text_decoder_in_neutral_state(&decoder));
+}
+
 void stream_decoders(void)
 {
     byte_order_marks();
@@ -210,6 +238,7 @@ void stream_decoders(void)
     marks_decide();
     spaces_and_reports();
     pending_bytes_take_space();
+    full_destinations_change_nothing();
 }
 
 void stream_calls_of_no_elements(const uint8_t *bytes, uint8_t *to_bytes, uint16_t *to_units)

@@ -7,8 +7,8 @@ use Rattle.encoding_streams.specs.declared.encoding.BomHandling.TheVariants.{Off
 use Rattle.encoding_streams.specs.declared.encoding.CoderResult.{CoderResult}
 use Rattle.encoding_streams.specs.declared.encoding.CoderResult.TheVariants.{InputEmpty, OutputFull}
 use Rattle.encoding_text.specs.declared.decoder.DecoderResult.{DecoderResult}
-use Rattle.encoding_streams.specs.Marks.{IsUndecided}
 use Rattle.encoding_streams.specs.Decoders.{DecoderState}
+use Rattle.encoding_streams.specs.ExactCalls.{IsPendingOf}
 use Rattle.encoding_c.specs.States.{RunsInState, IsUtf16CodeOf}
 use Rattle.encoding_c.specs.declared.stream_decoder.EncodingDecoder.{EncodingDecoder}
 use Rattle.encoding_c.specs.declared.stream_decoder.EncodingCoderResult.{EncodingCoderResult}
@@ -26,9 +26,9 @@ IsBomNumber n Off = n ≡ 0
 IsBomNumber n Remove = n ≡ 1
 IsBomNumber n Sniff = 1 < n
 
--- the storage holds what a call may leave there: at most three bytes, which are the start of a mark if one is looked for
+-- the storage holds what a call may leave there: the start of a mark that is looked for, or, if none is, of a character
 abbrev pub IsValidDecoderState : EncodingDecoder → DecoderState → Type 0
-IsValidDecoderState state decoder = (state.count ≤ 3) × IsUndecided decoder.bom decoder.encoding (take state.count state.pending)
+IsValidDecoderState state decoder = (state.count ≤ 3) × IsPendingOf decoder.bom decoder.encoding (take state.count state.pending)
 
 -- the decoder that the storage represents: its pending bytes are those that a call left there, and otherwise none
 pub record RepresentsDecoder (state : EncodingDecoder) (decoder : DecoderState) : Type 0 where

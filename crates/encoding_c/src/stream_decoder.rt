@@ -1,11 +1,12 @@
 //! The streaming decoder of UTF-8, UTF-16LE and UTF-16BE, with byte order marks and U+FFFD for malformed sequences:
 //! Encoding Standard, "decode". Between two calls it is in the caller's storage.
 
-ghost use Rattle.std.specs.Prelude.{◌≡◌, ◌≤◌, ◌<◌, ◌+◌, ◌↔◌, [], None, Some, length, min, encode_utf8, IsTrue};
+ghost use Rattle.std.specs.Prelude.{◌≡◌, ◌≤◌, ◌<◌, ◌+◌, ◌↔◌, [], None, Some, length, min, take, encode_utf8, IsTrue};
 ghost use Rattle.std.specs.Str.{IsAscii};
 ghost use Rattle.std.specs.Char.Escape.{encode_utf16};
 ghost use Rattle.encoding_definitions.specs.Prefixes.{IsLongestPrefix};
 ghost use Rattle.encoding_streams.specs.Decoders.{DecoderState, IsReplacingCall, IsReportingCall, SufficesBetweenReports, SufficesReplacing, SufficesReporting, max_utf16_length_in, max_utf8_length_in, max_utf8_length_with_replacement_in, queried};
+ghost use Rattle.encoding_streams.specs.ExactCalls.{AreReportLengths, IsExactCall, IsExactReplacingCall};
 ghost use Rattle.encoding_streams.specs.Marks.{found_mark, mark};
 ghost use Rattle.encoding_c.specs.DecoderStates.{IsEncodingNumber, IsBomNumber, IsCoderCodeOf, ReplacingCall, ReportingCall, RepresentsDecoder};
 
@@ -288,6 +289,8 @@ pub extern "C" fn encoding_text_decoder_decode_to_utf16(
     ensures { ReplacingCall decoder.old decoder.new result (λ d ended e.
         IsReplacingCall encode_utf16 2 d src.now dst.old dst.new last ended
         result.read result.written result.replaced e
+        × IsExactReplacingCall encode_utf16 2 d src.now (length dst.old) last ended
+        result.read (take result.written dst.new) result.replaced e
         × SufficesReplacing max_utf16_length_in d src.now (length dst.old) last ended
         result.read result.written e) }
 {
@@ -313,6 +316,8 @@ pub extern "C" fn encoding_text_decoder_decode_to_utf16_without_replacement(
     ensures { ReportingCall decoder.old decoder.new result (λ d ended e.
         IsReportingCall encode_utf16 2 d src.now dst.old dst.new last ended
         result.read result.written e
+        × IsExactCall encode_utf16 2 d src.now (length dst.old) last ended
+        result.read (take result.written dst.new) e × AreReportLengths ended
         × SufficesReporting max_utf16_length_in d src.now (length dst.old) last ended
         result.read result.written e
         × SufficesBetweenReports max_utf16_length_in 1 d src.now (length dst.old) last ended
@@ -336,6 +341,8 @@ pub extern "C" fn encoding_text_decoder_decode_to_utf8(
     ensures { ReplacingCall decoder.old decoder.new result (λ d ended e.
         IsReplacingCall encode_utf8 4 d src.now dst.old dst.new last ended
         result.read result.written result.replaced e
+        × IsExactReplacingCall encode_utf8 4 d src.now (length dst.old) last ended
+        result.read (take result.written dst.new) result.replaced e
         × SufficesReplacing max_utf8_length_with_replacement_in d src.now (length dst.old) last
         ended result.read result.written e) }
 {
@@ -361,6 +368,8 @@ pub extern "C" fn encoding_text_decoder_decode_to_utf8_without_replacement(
     ensures { ReportingCall decoder.old decoder.new result (λ d ended e.
         IsReportingCall encode_utf8 4 d src.now dst.old dst.new last ended
         result.read result.written e
+        × IsExactCall encode_utf8 4 d src.now (length dst.old) last ended
+        result.read (take result.written dst.new) e × AreReportLengths ended
         × SufficesReporting max_utf8_length_in d src.now (length dst.old) last ended
         result.read result.written e
         × SufficesBetweenReports max_utf8_length_with_replacement_in (length (encode_utf8 0xFFFD)) d

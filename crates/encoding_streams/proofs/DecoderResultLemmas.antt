@@ -1,6 +1,5 @@
 -- For any decoder, source, space and mark a call has at most one result.
-use Rattle.std.proofs.Common.{◌≡◌, ℕ, ◌-◌, inl, inr, ◌⊎◌, Bool, true, false, List, [], ◌∷◌, ◌++◌, length, drop, refl, sym, ap, subst, ◌∙◌, arith}
-use Rattle.std.proofs.lemmas.Bool.{both_ways, cases_lt}
+use Rattle.std.proofs.Common.{◌≡◌, ℕ, ◌-◌, inl, inr, Bool, false, List, [], ◌∷◌, ◌++◌, length, drop, refl, sym, ap, subst, ◌∙◌, arith}
 use Rattle.encoding_text.specs.declared.decoder.DecoderResult.{DecoderResult}
 use Rattle.encoding_text.specs.declared.decoder.DecoderResult.TheVariants.{InputEmpty, OutputFull, Malformed}
 use Rattle.encoding_text.proofs.OneResultLemmas as utf8
@@ -9,33 +8,11 @@ use Rattle.encoding_streams.specs.declared.encoding.Encoding.{Encoding}
 use Rattle.encoding_streams.specs.declared.encoding.Encoding.TheVariants.{Utf8, Utf16Le, Utf16Be}
 use Rattle.encoding_streams.specs.declared.encoding.CoderResult.{CoderResult}
 use Rattle.encoding_streams.specs.declared.encoding.CoderResult.TheVariants as coder
-use Rattle.encoding_streams.specs.Marks.{begins_mark}
 use Rattle.encoding_streams.specs.Decoders.{DecoderState, decoding}
-use Rattle.encoding_streams.specs.ExactCalls.{StepIn, AfterPending, Decodes, DecodesFrom, DecodesPending, DecodesSource, IsExactCall, IsIdle, NeedsSpaceAtEnd, ReplaceInTurn, Reported, Start, Waits, ended_by, start_of}
+use Rattle.encoding_streams.specs.ExactCalls.{StepIn, AfterPending, Decodes, DecodesFrom, DecodesPending, DecodesSource, IsExactCall, ReplaceInTurn, Reported, Start, ended_by, start_of}
+use Rattle.encoding_streams.proofs.PendingCallLemmas.{idle, progress, waits, wants}
+use Rattle.encoding_streams.proofs.ReportedCallLemmas.{kind}
 use Rattle.encoding_streams.proofs.Utf16OneResultLemmas as utf16
-
--- ---- what is known of the arguments
-idle : (src : List ℕ) (last : Bool) → IsIdle src last ⊎ (IsIdle src last → ⊥)
-idle src true = inr (λ i. both_ways true i.1 refl)
-idle [] false = inl (refl, refl)
-idle (b ∷ src) false = inr (λ i. omega (arith, i.0))
-
-waits : (old : DecoderState) (src : List ℕ) (last : Bool) → Waits old src last ⊎ (Waits old src last → ⊥)
-waits old src true = inr (λ w. both_ways true w.0 refl)
-waits old src false = by (begins_mark old.bom old.encoding (old.pending ++ src)) refl
-  where
-    by : (b : Bool) → begins_mark old.bom old.encoding (old.pending ++ src) ≡ b → Waits old src false ⊎ (Waits old src false → ⊥)
-    by true e = inl (refl, e)
-    by false e = inr (λ w. both_ways _ e w.1)
-
-wants : (need : ℕ) (q src : List ℕ) (room : ℕ) (last : Bool) → NeedsSpaceAtEnd need q src room last ⊎ (NeedsSpaceAtEnd need q src room last → ⊥)
-wants need q src room false = inr (λ (none, marked, some, little). both_ways _ refl marked)
-wants need q (b ∷ src) room true = inr (λ (none, marked, some, little). omega (arith, none))
-wants need [] [] room true = inr (λ (none, marked, some, little). omega (arith, some))
-wants need (b ∷ q) [] room true = elim (cases_lt room need) [
-  | inl little ↦ inl (refl, refl, omega arith, little)
-  | inr enough ↦ inr (λ (none, marked, some, little). omega (arith, enough, little))
-]
 
 module _ {A : Type 0} (encode : ℕ → List A) (need : ℕ) where
   abbrev Same : DecoderResult → DecoderResult → ℕ → ℕ → List A → List A → List ℕ → List ℕ → Type 0
@@ -91,13 +68,23 @@ module _ {A : Type 0} (encode : ℕ → List A) (need : ℕ) where
   abbrev pub OneResult : DecoderResult → DecoderResult → ℕ → ℕ → List A → List A → DecoderState → DecoderState → Type 0
   OneResult r r' n n' out out' s s' = (r ≡ r') × (n ≡ n') × (out ≡ out') × (s ≡ s')
 
-  from_same : (start : Start) (src : List ℕ) (room : ℕ) (last : Bool) (r r' : DecoderResult) (n n' : ℕ) (out out' : List A) (s s' : DecoderState)
-      → DecodesFrom encode need start src room last r n out s → DecodesFrom encode need start src room last r' n' out' s'
+  from_same : (old : DecoderState) (start : Start) (src : List ℕ) (room : ℕ) (last : Bool) (r r' : DecoderResult) (n n' : ℕ) (out out' : List A)
+      (s s' : DecoderState) → DecodesFrom encode need old start src room last r n out s → DecodesFrom encode need old start src room last r' n' out' s'
       → OneResult r r' n n' out out' s s'
-  from_same start src room last r r' n n' out out' s s' a b =
+  from_same old start src room last r r' n n' out out' s s' a b =
       let (c, d, f, g) = decodes_same start.encoding start.pending (drop start.skipped src) room last r r' (n - start.skipped) (n' - start.skipped) out out'
       s.pending s'.pending a.decodes b.decodes in
-      (c, omega (arith, d, a.skips, b.skips), f, a.decided ∙ ap (decoding start.encoding) g ∙ sym b.decided)
+      let reads : n ≡ n' = omega (arith, d, a.skips, b.skips) in (
+        c,
+        reads,
+        f,
+        elim (progress r n out) [
+          | inl no_progress ↦ a.unchanged no_progress ∙ sym (b.unchanged (sym c ∙ no_progress.0, sym reads ∙ no_progress.1, sym f ∙ no_progress.2))
+          | inr moves ↦
+              a.decided moves ∙ ap (decoding start.encoding) g
+              ∙ sym (b.decided (λ no_progress. moves (c ∙ no_progress.0, reads ∙ no_progress.1, f ∙ no_progress.2)))
+        ],
+      )
 
   pub call_same : (old : DecoderState) (src : List ℕ) (room : ℕ) (last : Bool) (r r' : DecoderResult) (n n' : ℕ) (out out' : List A) (s s' : DecoderState)
       → IsExactCall encode need old src room last r n out s → IsExactCall encode need old src room last r' n' out' s' → OneResult r r' n n' out out' s s'
@@ -106,15 +93,10 @@ module _ {A : Type 0} (encode : ℕ → List A) (need : ℕ) where
         let (c, d, f, g) = a.waits w in
         let (h, i, j, k) = b.waits w in
         (c ∙ sym h, d ∙ sym i, f ∙ sym j, g ∙ sym k)
-    | inr w ↦ from_same (start_of old src) src room last r r' n n' out out' s s' (a.decodes w) (b.decodes w)
+    | inr w ↦ from_same old (start_of old src) src room last r r' n n' out out' s s' (a.decodes w) (b.decodes w)
   ]
 
   -- ---- with U+FFFD for each report
-  abbrev kind : DecoderResult → ℕ
-  kind InputEmpty = 0
-  kind OutputFull = 1
-  kind (Malformed k second) = 2
-
   no_report : (r : CoderResult) (k second : ℕ) → ended_by r ≡ Malformed k second → ⊥
   no_report coder.InputEmpty k second e = omega (arith, ap kind e)
   no_report coder.OutputFull k second e = omega (arith, ap kind e)

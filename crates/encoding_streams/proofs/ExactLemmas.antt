@@ -1,6 +1,7 @@
 -- Exactly what a call that reports returns: of the pending bytes and the source, and after a mark.
 use Rattle.std.proofs.Common.{◌≡◌, ◌≢◌, ℕ, ◌+◌, ◌-◌, ◌<◌, inl, inr, ◌⊎◌, Bool, true, false, List, [], ◌∷◌, ◌++◌, length, take, drop, refl, sym, ap, subst, ◌∙◌, arith, append-nil}
 use Rattle.std.specs.Prelude.{Some, None}
+use Rattle.std.specs.Char.{IsScalar}
 use Rattle.std.proofs.lemmas.Bool.{both_ways}
 use Rattle.std.proofs.lemmas.List.{take_rest, length-drop, nil_from_length}
 use Rattle.encoding_definitions.specs.Prefixes.{WritesPrefix}
@@ -13,18 +14,14 @@ use Rattle.encoding_streams.specs.declared.encoding.Encoding.TheVariants.{Utf8, 
 use Rattle.encoding_streams.specs.declared.encoding.BomHandling.TheVariants.{Off}
 use Rattle.encoding_streams.specs.Marks.{begins_mark}
 use Rattle.encoding_streams.specs.Decoders.{DecoderState, decoding}
-use Rattle.encoding_streams.specs.ExactCalls.{StepIn, IsPendingIn, AfterPending, Decodes, DecodesFrom, DecodesPending, DecodesSource, IsExactCall, IsIdle, NeedsSpaceAtEnd, reported_with}
+use Rattle.encoding_streams.specs.ExactCalls.{StepIn, IsPendingIn, AfterPending, Decodes, DecodesFrom, DecodesPending, DecodesSource, IsExactCall, IsIdle, MakesNoProgress, NeedsSpaceAtEnd, reported_with}
 use Rattle.encoding_streams.specs.DecoderSteps.{IsSniffed, IsStop}
-use Rattle.encoding_streams.proofs.Utf16ByteLemmas.{pending_nil}
+use Rattle.encoding_streams.proofs.PendingStepLemmas.{nothing_pending, step_pending}
+use Rattle.encoding_streams.proofs.PendingCallLemmas.{same_pending}
+use Rattle.encoding_streams.proofs.ReportedCallLemmas.{not_full}
 
 module _ {A : Type 0} (encode : ℕ → List A) (need : ℕ) where
   -- ---- steps
-  pub step_pending : (e : Encoding) (p src : List ℕ) (room : ℕ) (last : Bool) (result : DecoderResult) (read : ℕ) (out : List A) (q : List ℕ)
-      → StepIn encode need e p src room last result read out q → IsPendingIn e q
-  step_pending Utf8 p src room last result read out q s = s.pending
-  step_pending Utf16Le p src room last result read out q s = s.pending
-  step_pending Utf16Be p src room last result read out q s = s.pending
-
   -- with nothing to read
   pub step_idle : (e : Encoding) (q src : List ℕ) (room : ℕ) (last : Bool) → IsPendingIn e q → length src ≡ 0 → (last ≡ true → q ≡ [])
       → StepIn encode need e q src room last InputEmpty 0 [] q
@@ -128,7 +125,7 @@ module _ {A : Type 0} (encode : ℕ → List A) (need : ℕ) where
     stops : (result : DecoderResult) (room : ℕ) → IsStop need q src room last (Some result) → DecodesSource encode need e q src room last result 0 [] q
     stops InputEmpty room (none, end) = record {
       full = λ (nothing, marked, pending, little). absurd (omega (arith, pending, ap length (end marked)));
-      step = λ _. step_idle e q src room last (step_pending e [] held (length dst) false ended taken (take w dst1) q first) none end;
+      step = λ _. step_idle e q src room last (step_pending encode need e [] held (length dst) false ended taken (take w dst1) q first) none end;
     }
     stops OutputFull room (none, pending, little, marked) = record {
       full = λ _. (refl, refl, refl, refl);
@@ -167,13 +164,15 @@ module _ {A : Type 0} (encode : ℕ → List A) (need : ℕ) where
             ∙ (λ i. written_is dst dst1 w out writes i ++ written_is (take (length dst1 - w) (drop w dst1)) sub more units puts i)
 
   -- ---- no mark is looked for
-  pub exact_off : (e : Encoding) (p src : List ℕ) (room : ℕ) (last : Bool) (result : DecoderResult) (read : ℕ) (out : List A) (q : List ℕ)
+  pub exact_off : (longer : (c : ℕ) → IsScalar c → 0 < length (encode c))
+      (e : Encoding) (p src : List ℕ) (room : ℕ) (last : Bool) (result : DecoderResult) (read : ℕ) (out : List A) (q : List ℕ)
       → Decodes encode need e p src room last result read out q
       → IsExactCall encode need (decoding e p) src room last result read out (decoding e q)
-  exact_off e p src room last result read out q d = record {
+  exact_off longer e p src room last result read out q d = record {
     waits = λ w. absurd (both_ways false refl w.1);
     decodes = λ _. record {
-      decided = refl;
+      unchanged = λ no_progress. ap (decoding e) (same_pending encode need longer e p src room last result read out q no_progress d);
+      decided = λ _. refl;
       skips = omega arith;
       decodes = subst (λ n. Decodes encode need e p src room last result n out q) (omega arith) d;
     };
@@ -198,11 +197,11 @@ module _ {A : Type 0} (encode : ℕ → List A) (need : ℕ) where
         all = elim sniffed.still [ inl off ↦ absurd (on off) | inr (whole, unmarked, same, begins) ↦ whole ]
 
     from_start : mid.bom ≡ Off → (result : DecoderResult) (read : ℕ) (out : List A) (new : DecoderState)
-        → DecodesFrom encode need (record { encoding = mid.encoding; pending = mid.pending; skipped = k }) src room last result read out new
+        → DecodesFrom encode need old (record { encoding = mid.encoding; pending = mid.pending; skipped = k }) src room last result read out new
         → IsExactCall encode need old src room last result read out new
     from_start off result read out new made = record {
       waits = λ w. absurd ((sniffed.decided off).0 w);
-      decodes = λ _. subst (λ s. DecodesFrom encode need s src room last result read out new) (sym (sniffed.decided off).1) made;
+      decodes = λ _. subst (λ s. DecodesFrom encode need old s src room last result read out new) (sym (sniffed.decided off).1) made;
     }
 
     pub early_exact : (mid.bom ≢ Off) ⊎ ((0 < k) × (k ≡ length src)) → IsExactCall encode need old src room last InputEmpty k [] mid
@@ -212,9 +211,10 @@ module _ {A : Type 0} (encode : ℕ → List A) (need : ℕ) where
           let none : mid.pending ≡ [] = sniffed.found some off in
           let gone : length (drop k src) ≡ 0 = omega (arith, length-drop k src, all) in
           let step : Decodes encode need mid.encoding [] (drop k src) room last InputEmpty 0 [] [] =
-          step_idle mid.encoding [] (drop k src) room last (nothing mid.encoding) gone (λ _. refl) in
+          step_idle mid.encoding [] (drop k src) room last (nothing_pending mid.encoding) gone (λ _. refl) in
           from_start off InputEmpty k [] mid (record {
-            decided = λ i. record { encoding = mid.encoding; bom = off i; pending = mid.pending };
+            unchanged = λ no_progress. absurd (not_full no_progress.0);
+            decided = λ _. λ i. record { encoding = mid.encoding; bom = off i; pending = mid.pending };
             skips = omega arith;
             decodes = subst (λ n. Decodes encode need mid.encoding mid.pending (drop k src) room last InputEmpty n [] mid.pending) (omega arith)
                 (subst (λ p. Decodes encode need mid.encoding p (drop k src) room last InputEmpty 0 [] p) (sym none) step);
@@ -222,18 +222,36 @@ module _ {A : Type 0} (encode : ℕ → List A) (need : ℕ) where
       | inr (whole, unmarked, same, begins) ↦
           still_on (λ off. both_ways false refl (subst (λ b. begins_mark b mid.encoding mid.pending ≡ true) off begins))
     ]
-      where
-        nothing : (e : Encoding) → IsPendingIn e []
-        nothing Utf8 = inl refl
-        nothing Utf16Le = pending_nil _
-        nothing Utf16Be = pending_nil _
 
-    pub sniffed_exact : mid.bom ≡ Off → (result : DecoderResult) (r : ℕ) (out : List A) (new : DecoderState) → new ≡ decoding mid.encoding new.pending
+    pub sniffed_exact : mid.bom ≡ Off → (result : DecoderResult) (r : ℕ) (out : List A) (new : DecoderState)
+        → (MakesNoProgress result (k + r) out → new ≡ old) → ((MakesNoProgress result (k + r) out → ⊥) → new ≡ decoding mid.encoding new.pending)
         → Decodes encode need mid.encoding mid.pending (take (length src - k) (drop k src)) room last result r out new.pending
         → IsExactCall encode need old src room last result (k + r) out new
-    sniffed_exact off result r out new is made = from_start off result (k + r) out new (record {
-      decided = is;
+    sniffed_exact off result r out new unchanged decided made = from_start off result (k + r) out new (record {
+      unchanged = unchanged;
+      decided = decided;
       skips = omega arith;
       decodes = subst (λ n. Decodes encode need mid.encoding mid.pending (drop k src) room last result n out new.pending) (omega arith)
           (subst (λ bs. Decodes encode need mid.encoding mid.pending bs room last result r out new.pending) (take_rest src k) made);
     })
+
+    -- the marks are looked for again
+    module _ (longer : (c : ℕ) → IsScalar c → 0 < length (encode c)) (result : DecoderResult) (r : ℕ) (out : List A) (q : List ℕ)
+        (no_progress : MakesNoProgress result (k + r) out)
+        (made : Decodes encode need mid.encoding mid.pending (take (length src - k) (drop k src)) room last result r out q) where
+      abbrev pub again : DecoderState
+      again = record { encoding = mid.encoding; bom = old.bom; pending = q }
+
+      pub again_is : again ≡ old
+      again_is =
+          let same = sniffed.stays (omega (arith, no_progress.1)) in
+          let kept = same_pending encode need longer mid.encoding mid.pending (take (length src - k) (drop k src)) room last result r out q
+          (no_progress.0, omega (arith, no_progress.1), no_progress.2) made in
+          λ i. record { encoding = same.0 i; bom = old.bom; pending = (kept ∙ same.1) i }
+
+      pub no_progress_exact : mid.bom ≡ Off → IsExactCall encode need old src room last OutputFull 0 [] again
+      no_progress_exact off =
+          subst (λ x. IsExactCall encode need old src room last x 0 [] again) no_progress.0
+          (subst (λ n. IsExactCall encode need old src room last result n [] again) no_progress.1
+          (subst (λ xs. IsExactCall encode need old src room last result (k + r) xs again) no_progress.2
+          (sniffed_exact off result r out again (λ _. again_is) (λ moves. absurd (moves no_progress)) made)))

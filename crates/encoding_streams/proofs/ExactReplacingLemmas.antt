@@ -18,7 +18,7 @@ both_written dst dst1 sub out units w more writes puts =
     sym (written_is dst (put_mid w (length dst1 - w) dst1 sub) (w + more) (out ++ units) (WritesPrefix_after dst dst1 w out sub more units writes puts))
     ∙ (λ i. written_is dst dst1 w out writes i ++ written_is (take (length dst1 - w) (drop w dst1)) sub more units puts i)
 
-length_written : {A : Type 0} (dst dst1 out : List A) (w : ℕ) → WritesPrefix dst dst1 w out → length (take w dst1) ≡ w
+pub length_written : {A : Type 0} (dst dst1 out : List A) (w : ℕ) → WritesPrefix dst dst1 w out → length (take w dst1) ≡ w
 length_written dst dst1 out w writes = sym (ap length (written_is dst dst1 w out writes)) ∙ sym writes.count
 
 module _ {A : Type 0} (encode : ℕ → List A) (need : ℕ) where

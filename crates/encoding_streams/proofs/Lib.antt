@@ -17,6 +17,9 @@ pub mod SniffCallLemmas
 pub mod ReplacingCallLemmas
 pub mod DecoderChainLemmas
 pub mod TextDestinationLemmas
+pub mod IncompleteLemmas
+pub mod PendingStepLemmas
+pub mod PendingCallLemmas
 pub mod ExactLemmas
 pub mod ExactReplacingLemmas
 pub mod DecoderResultLemmas

@@ -14,7 +14,7 @@ use Rattle.encoding_streams.specs.DecoderSteps.{IsStop, Reports, state_of}
 use Rattle.encoding_streams.specs.ExactCalls.{reported_with}
 use Rattle.encoding_streams.proofs.DecoderCallLemmas.{inner_stays, room_after, two_calls, two_suffice, two_replaced, held_ends, held_suffice, held_replaced, stopped, room_left, held_whole}
 
-abbrev kind : DecoderResult → ℕ
+abbrev pub kind : DecoderResult → ℕ
 kind InputEmpty = 0
 kind OutputFull = 1
 kind (Malformed k second) = 2
@@ -25,7 +25,7 @@ not_full wrong = omega (arith, ap kind wrong)
 pub not_report : (x : DecoderResult) → x ≡ InputEmpty → IsReport x → ⊥
 not_report x e (k, second, is) = omega (arith, ap kind (sym e ∙ is))
 
-full_no_report : IsReport OutputFull → ⊥
+pub full_no_report : IsReport OutputFull → ⊥
 full_no_report (k, second, is) = omega (arith, ap kind is)
 
 module _ {A : Type 0} (encode : ℕ → List A) (need : ℕ) (query replacing : Encoding → ℕ → ℕ → ℕ) where

@@ -1,7 +1,8 @@
 -- A call after the start of its stream was read.
 use Rattle.std.proofs.Common.{◌≡◌, ◌≢◌, ℕ, ◌+◌, ◌-◌, ◌<◌, ◌≤◌, inl, inr, ◌⊎◌, Bool, true, List, [], ◌++◌, length, take, drop, max, refl, sym, ap, subst, ◌∙◌, arith, append-nil, append_assoc, length-append, take-add}
 use Rattle.std.proofs.lemmas.Bool.{both_ways}
-use Rattle.std.proofs.lemmas.List.{take_rest, drop-drop, length-drop, length-take}
+use Rattle.std.proofs.lemmas.List.{take_rest, drop-drop, length-drop, length-take, nil_from_length}
+use Rattle.encoding_definitions.specs.Prefixes.{WritesPrefix}
 use Rattle.encoding_text.specs.declared.decoder.DecoderResult.{DecoderResult}
 use Rattle.encoding_text.specs.declared.decoder.DecoderResult.TheVariants.{InputEmpty, OutputFull, Malformed}
 use Rattle.encoding_streams.specs.declared.encoding.Encoding.{Encoding}
@@ -11,7 +12,7 @@ use Rattle.encoding_streams.specs.declared.encoding.BomHandling.TheVariants.{Off
 use Rattle.encoding_streams.specs.Decoders.{DecoderState, EndsReporting, FittingBeginsIn, StartsWithIn, YieldParts, SufficesReporting, left, queried, queried_in}
 use Rattle.encoding_streams.specs.DecoderSteps.{IsSniffed, Reports}
 use Rattle.encoding_streams.specs.ExactCalls.{IsIdle}
-use Rattle.encoding_streams.proofs.ReportedCallLemmas.{not_full, not_report}
+use Rattle.encoding_streams.proofs.ReportedCallLemmas.{full_no_report, not_full, not_report}
 
 -- ---- the queried lengths
 module _ (query : Encoding → ℕ → ℕ → ℕ) (grows : (e : Encoding) (n p m q : ℕ) → n + p ≤ m + q → query e n p ≤ query e m q) where
@@ -216,6 +217,39 @@ module _ {A : Type 0} (encode : ℕ → List A) (need : ℕ) (query replacing : 
         fewer m replacing,
       );
     }
+
+-- a call that makes no progress, of a decoder that it leaves as it is
+pub no_progress_reports : {A : Type 0} (encode : ℕ → List A) (need : ℕ) (query replacing : Encoding → ℕ → ℕ → ℕ) (old mid : DecoderState) (src : List ℕ)
+    (dst dst' : List A) (last : Bool) (result : DecoderResult) (read written : ℕ) → result ≡ OutputFull → read ≡ 0 → written ≡ 0
+    → mid.encoding ≡ old.encoding → mid.pending ≡ old.pending → Reports encode need query replacing old src dst dst' last result read written mid
+    → Reports encode need query replacing old src dst dst' last OutputFull 0 0 old
+no_progress_reports {A} encode need query replacing old mid src dst dst' last result read written full none nothing same kept given = record {
+  call = record {
+    out = [];
+    writes = subst (WritesPrefix dst dst' 0) (nil_from_length made.call.out (sym made.call.writes.count)) made.call.writes;
+    within = omega arith;
+    parts = [];
+    decoded = ([], [], refl, refl, refl, refl);
+    yields = λ more end. nothing_yielded (left old (src ++ more)) (left old (src ++ more)) refl;
+    keeps = ([], append-nil old.pending);
+    at_most_three = omega (arith, made.call.at_most_three, ap length kept);
+    ends = record {
+      little = made.call.ends.little;
+      more = omega (arith, made.call.ends.more, ap length kept);
+      next_too_long = λ empty begins.
+          made.call.ends.next_too_long (kept ∙ empty) (subst (λ e. FittingBeginsIn e encode (drop 0 src) (length dst - 0)) (sym same) begins);
+    };
+  };
+  suffices = λ m l marked h. absurd ((made.suffices m l marked h).0 refl);
+  between_reports = λ m l marked h. absurd ((made.between_reports m l marked h).0 refl);
+  replaced = λ m l marked h report. absurd (full_no_report report);
+}
+  where
+    made : Reports encode need query replacing old src dst dst' last OutputFull 0 0 mid
+    made =
+        subst (λ x. Reports encode need query replacing old src dst dst' last x 0 0 mid) full
+        (subst (λ n. Reports encode need query replacing old src dst dst' last result n 0 mid) none
+        (subst (λ n. Reports encode need query replacing old src dst dst' last result read n mid) nothing given))
 
 -- the same call, of the states that are these
 pub as_shown : {A : Type 0} (encode : ℕ → List A) (need : ℕ) (query replacing : Encoding → ℕ → ℕ → ℕ) (old mid before after : DecoderState) (src : List ℕ)

@@ -3,7 +3,7 @@ use Rattle.std.proofs.Common.{◌≡◌, ℕ, ◌+◌, ◌-◌, ◌<◌, ◌≤�
 use Rattle.std.specs.Prelude.{Option, None, Some}
 use Rattle.std.proofs.lemmas.Bool.{both_ways, and_parts, cases_lt, false_from_ne_true}
 use Rattle.std.proofs.lemmas.Bool.Decides.{Decides-eqb, nat_tests}
-use Rattle.std.proofs.lemmas.List.{drop_at, drop_all, drop-drop, drop-append-le, take_all, length-take, length-drop}
+use Rattle.std.proofs.lemmas.List.{drop_at, drop_all, drop-drop, drop-append-le, nil_from_length, take_all, length-take, length-drop}
 use Rattle.std.proofs.lemmas.Slice.Eq.{starts_is}
 use Rattle.std.specs.List.{starts_with}
 use Rattle.encoding_definitions.proofs.PartsLemmas.{prefixes_nest}
@@ -11,9 +11,9 @@ use Rattle.encoding_streams.specs.declared.encoding.Encoding.{Encoding}
 use Rattle.encoding_streams.specs.declared.encoding.Encoding.TheVariants.{Utf8, Utf16Le, Utf16Be}
 use Rattle.encoding_streams.specs.declared.encoding.BomHandling.{BomHandling}
 use Rattle.encoding_streams.specs.declared.encoding.BomHandling.TheVariants.{Off, Remove, Sniff}
-use Rattle.encoding_streams.specs.Marks.{mark, found_mark, begins_mark_of, begins_mark, after_mark, IsUndecided}
+use Rattle.encoding_streams.specs.Marks.{mark, found_mark, begins_mark_of, begins_mark, after_mark}
 use Rattle.encoding_streams.specs.Decoders.{DecoderState, left}
-use Rattle.encoding_streams.specs.ExactCalls.{start_after}
+use Rattle.encoding_streams.specs.ExactCalls.{IsPendingOf, start_after}
 use Rattle.encoding_streams.specs.DecoderSteps.{IsSniffed}
 
 -- one is a prefix of the other
@@ -24,7 +24,7 @@ starts_so : (bytes prefix rest : List ℕ) → bytes ≡ prefix ++ rest → star
 starts_so bytes prefix = (starts_is Decides-eqb bytes prefix (starts_with nat_eq bytes prefix) refl).1
 
 -- ---- the marks differ in their first byte
-abbrev first : Encoding → ℕ
+abbrev pub first : Encoding → ℕ
 first m = slice_index (mark m) 0
 
 same_mark : (m n : Encoding) → first m ≡ first n → m ≡ n
@@ -151,7 +151,7 @@ either : (x y : Bool) → (x || y) ≡ true → (x ≡ true) ⊎ (y ≡ true)
 either true y h = inl refl
 either false y h = inr h
 
-begun : (bom : BomHandling) (e : Encoding) (bytes : List ℕ) → begins_mark bom e bytes ≡ true
+pub begun : (bom : BomHandling) (e : Encoding) (bytes : List ℕ) → begins_mark bom e bytes ≡ true
     → (m : Encoding) × IsLookedFor bom e m × (begins_mark_of m bytes ≡ true)
 begun Off e bytes h = absurd (both_ways false refl h)
 begun Remove e bytes h = (e, refl, h)
@@ -181,7 +181,7 @@ begins_each Sniff e Utf16Le bytes is h = neither _ _ _ h
     neither false true z h = absurd (both_ways true h refl)
     neither false false z h = h
 
-begun_parts : (m : Encoding) (bytes : List ℕ) → begins_mark_of m bytes ≡ true
+pub begun_parts : (m : Encoding) (bytes : List ℕ) → begins_mark_of m bytes ≡ true
     → (length bytes < length (mark m)) × (mark m ≡ bytes ++ drop (length bytes) (mark m))
 begun_parts m bytes h =
     let parts = and_parts _ _ h in
@@ -223,11 +223,11 @@ module _ (bom : BomHandling) (e : Encoding) (p src : List ℕ) where
       found_so bom e m (p ++ (src ++ more)) is.0
       (subst (λ xs. starts_with nat_eq xs (mark m) ≡ true) (sym (cut more)) (stays window (drop 4 (p ++ src) ++ more) m is.1))
 
-  module _ (last : Bool) (m : Encoding) (undecided : IsUndecided bom e p) (found : found_mark bom e window ≡ Some m) where
+  module _ (last : Bool) (m : Encoding) (pending : IsPendingOf bom e p) (found : found_mark bom e window ≡ Some m) where
     pub long_enough : length p < length (mark m)
-    long_enough = elim undecided [
-      | inl off ↦ absurd (none_off (subst (λ x. found_mark x e window ≡ Some m) off found))
-      | inr begins ↦ within_mark bom e m p (src ++ []) begins (found_whole m [] found)
+    long_enough = elim pending [
+      | inl begins ↦ within_mark bom e m p (src ++ []) begins (found_whole m [] found)
+      | inr decided ↦ absurd (none_off (subst (λ x. found_mark x e window ≡ Some m) decided.0 found))
     ]
       where
         is_none : Option Encoding → Bool
@@ -303,7 +303,7 @@ module _ (bom : BomHandling) (e : Encoding) (p src : List ℕ) where
         still = inr (refl, unmarked, refl, begins);
         encoding = inr refl;
         found = λ _ off. absurd (both_ways false refl (subst (λ x. begins_mark x e window ≡ true) off begins));
-        stays = λ none. omega (arith, ap length whole, length-append p src, none);
+        stays = λ none. (refl, whole ∙ ap (λ bs. p ++ bs) (nil_from_length src none) ∙ append-nil p);
         waiting = λ _. (
           (unmarked, subst (λ xs. begins_mark bom e xs ≡ true) whole begins),
           λ i. record { encoding = e; bom = bom; pending = whole i },
@@ -324,7 +324,7 @@ module _ (bom : BomHandling) (e : Encoding) (p src : List ℕ) where
     still = inl refl;
     encoding = inr refl;
     found = λ some _. absurd (omega (arith, some));
-    stays = λ _. refl;
+    stays = λ _. (refl, refl);
     waiting = λ on. absurd (on refl);
     decided = λ _. (no_wait, ap (start_after old) found_none);
   }
@@ -366,7 +366,7 @@ sniff_off e bom p src last off few = record {
   still = inl off;
   encoding = inr refl;
   found = λ some _. absurd (omega (arith, some));
-  stays = λ _. refl;
+  stays = λ _. (refl, refl);
   waiting = λ on. absurd (on off);
   decided = λ _. (
     λ w. both_ways false refl (subst (λ b. begins_mark b e (p ++ src) ≡ true) off w.1),

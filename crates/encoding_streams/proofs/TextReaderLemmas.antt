@@ -13,17 +13,13 @@ use Rattle.encoding_streams.specs.declared.encoding.CoderResult.TheVariants.{Inp
 use Rattle.encoding_streams.specs.Marks.{after_mark, found_mark}
 use Rattle.encoding_streams.specs.Decoders.{DecoderState, EndsReplacing, IsAllRead, IsReplacingCall, SufficesReplacing, YieldText, left, max_utf8_length_with_replacement_in, queried, queried_in}
 use Rattle.encoding_streams.specs.TextReading.{IsTextOf}
-use Rattle.encoding_streams.proofs.DecoderYieldLemmas.{YieldText-append, YieldText-nil}
+use Rattle.encoding_streams.proofs.DecoderYieldLemmas.{YieldText-append}
 
 -- the text of the first parts of what was left, and what is left now
 abbrev pub IsReadSoFar : Option (Encoding × List ℕ) → Option (Encoding × List ℕ) → List ℕ → Type 0
 IsReadSoFar None after text = ⊤
 IsReadSoFar (Some before) None text = ⊥
 IsReadSoFar (Some before) (Some after) text = (replaced : ℕ) × YieldText encode_utf8 before after text replaced
-
-pub nothing_read : (start : Option (Encoding × List ℕ)) → IsReadSoFar start start []
-nothing_read None = tt
-nothing_read (Some before) = (0, YieldText-nil encode_utf8 before)
 
 -- the destination is never full
 pub block_fits : (old : DecoderState) (n : ℕ) → length old.pending ≤ 3 → n ≤ 1024 → queried max_utf8_length_with_replacement_in old n ≤ 3084

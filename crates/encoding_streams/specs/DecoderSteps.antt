@@ -40,7 +40,7 @@ pub record IsSniffed (old : DecoderState) (src : List ℕ) (last : Bool) (new : 
   pub still : (new.bom ≡ Off) ⊎ ((read ≡ length src) × (last ≡ false) × (new.bom ≡ old.bom) × (begins_mark new.bom new.encoding new.pending ≡ true))
   pub encoding : (old.bom ≡ Sniff) ⊎ (new.encoding ≡ old.encoding)
   pub found : 0 < read → new.bom ≡ Off → new.pending ≡ []
-  pub stays : read ≡ 0 → length new.pending ≡ length old.pending
+  pub stays : read ≡ 0 → (new.encoding ≡ old.encoding) × (new.pending ≡ old.pending)
   pub waiting : (new.bom ≡ Off → ⊥) → Waits old src last × (new ≡ record { encoding = old.encoding; bom = old.bom; pending = old.pending ++ src })
   pub decided : new.bom ≡ Off → (Waits old src last → ⊥)
       × (start_of old src ≡ record { encoding = new.encoding; pending = new.pending; skipped = read })

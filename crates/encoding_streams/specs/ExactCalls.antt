@@ -1,6 +1,6 @@
 -- Exactly what a call of a decoder returns: for given decoder, source, space and mark there is one result. Encoding
 -- Standard, "decode".
-use Rattle.std.specs.Prelude.{◌≡◌, ℕ, suc, ◌+◌, ◌-◌, ◌<◌, ◌≤◌, Bool, true, false, List, [], ◌∷◌, ◌++◌, length, drop, Option, None, Some}
+use Rattle.std.specs.Prelude.{◌≡◌, ◌⊎◌, ℕ, suc, ◌+◌, ◌-◌, ◌<◌, ◌≤◌, Bool, true, false, List, [], ◌∷◌, ◌++◌, length, drop, Option, None, Some}
 use Rattle.encoding_definitions.specs.Sequence.{IsPending}
 use Rattle.encoding_text.specs.Decoding.{DecodeStep}
 use Rattle.encoding_text.specs.declared.decoder.DecoderResult.{DecoderResult}
@@ -8,6 +8,8 @@ use Rattle.encoding_text.specs.declared.decoder.DecoderResult.TheVariants.{Input
 use Rattle.encoding_text.specs.declared.utf_16.ByteOrder.TheVariants.{LittleEndian, BigEndian}
 use Rattle.encoding_streams.specs.declared.encoding.Encoding.{Encoding}
 use Rattle.encoding_streams.specs.declared.encoding.Encoding.TheVariants.{Utf8, Utf16Le, Utf16Be}
+use Rattle.encoding_streams.specs.declared.encoding.BomHandling.{BomHandling}
+use Rattle.encoding_streams.specs.declared.encoding.BomHandling.TheVariants.{Off}
 use Rattle.encoding_streams.specs.declared.encoding.CoderResult.{CoderResult}
 use Rattle.encoding_streams.specs.declared.encoding.CoderResult.TheVariants as coder
 use Rattle.encoding_streams.specs.Marks.{begins_mark, found_mark, mark}
@@ -26,6 +28,10 @@ abbrev pub IsPendingIn : Encoding → List ℕ → Type 0
 IsPendingIn Utf8 p = IsPending p
 IsPendingIn Utf16Le p = IsPendingUtf16 LittleEndian p
 IsPendingIn Utf16Be p = IsPendingUtf16 BigEndian p
+
+-- what a decoder keeps that looks for these marks: the start of one of them, or, if it looks for none, as said above
+abbrev pub IsPendingOf : BomHandling → Encoding → List ℕ → Type 0
+IsPendingOf bom e p = (begins_mark bom e p ≡ true) ⊎ ((bom ≡ Off) × IsPendingIn e p)
 
 -- the result, with `rest` bytes read after the malformed sequence
 abbrev pub reported_with : DecoderResult → ℕ → DecoderResult
@@ -90,9 +96,14 @@ start_after old (Some m) = record { encoding = m; pending = []; skipped = length
 abbrev pub start_of : DecoderState → List ℕ → Start
 start_of old src = start_after old (found_mark old.bom old.encoding (old.pending ++ src))
 
--- from there on
-pub record DecodesFrom {A : Type 0} (encode : ℕ → List A) (need : ℕ) (start : Start) (src : List ℕ) (room : ℕ) (last : Bool) (result : DecoderResult) (read : ℕ) (out : List A) (new : DecoderState) : Type 0 where
-  pub decided : new ≡ decoding start.encoding new.pending
+-- there is no space for anything: the call reads and writes nothing
+abbrev pub MakesNoProgress : {A : Type 0} → DecoderResult → ℕ → List A → Type 0
+MakesNoProgress result read out = (result ≡ OutputFull) × (read ≡ 0) × (out ≡ [])
+
+-- From there on. A call that makes no progress leaves the decoder as it is: the next one looks for the marks again.
+pub record DecodesFrom {A : Type 0} (encode : ℕ → List A) (need : ℕ) (old : DecoderState) (start : Start) (src : List ℕ) (room : ℕ) (last : Bool) (result : DecoderResult) (read : ℕ) (out : List A) (new : DecoderState) : Type 0 where
+  pub unchanged : MakesNoProgress result read out → new ≡ old
+  pub decided : (MakesNoProgress result read out → ⊥) → new ≡ decoding start.encoding new.pending
   pub skips : start.skipped ≤ read
   pub decodes : Decodes encode need start.encoding start.pending (drop start.skipped src) room last result (read - start.skipped) out new.pending
 
@@ -100,7 +111,13 @@ pub record DecodesFrom {A : Type 0} (encode : ℕ → List A) (need : ℕ) (star
 pub record IsExactCall {A : Type 0} (encode : ℕ → List A) (need : ℕ) (old : DecoderState) (src : List ℕ) (room : ℕ) (last : Bool) (result : DecoderResult) (read : ℕ) (out : List A) (new : DecoderState) : Type 0 where
   pub waits : Waits old src last → (result ≡ InputEmpty) × (read ≡ length src) × (out ≡ [])
       × (new ≡ record { encoding = old.encoding; bom = old.bom; pending = old.pending ++ src })
-  pub decodes : (Waits old src last → ⊥) → DecodesFrom encode need (start_of old src) src room last result read out new
+  pub decodes : (Waits old src last → ⊥) → DecodesFrom encode need old (start_of old src) src room last result read out new
+
+-- a report: the length of the malformed sequence, and the number of bytes that were read after it
+abbrev pub AreReportLengths : DecoderResult → Type 0
+AreReportLengths InputEmpty = Unit {0}
+AreReportLengths OutputFull = Unit {0}
+AreReportLengths (Malformed k second) = (0 < k) × (k ≤ 3) × (second ≤ 1)
 
 -- a call that reports a malformed sequence
 pub record Reported (A : Type 0) : Type 0 where

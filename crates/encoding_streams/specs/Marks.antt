@@ -1,5 +1,5 @@
 -- Byte order marks, and the bytes without them: Encoding Standard, "BOM sniff" and "decode".
-use Rattle.std.specs.Prelude.{◌≡◌, ◌⊎◌, ℕ, Bool, true, false, ◌&&◌, ◌||◌, List, [], ◌∷◌, length, drop, nat_eq, nat_lt, if◌then◌else◌, Option, None, Some}
+use Rattle.std.specs.Prelude.{ℕ, Bool, false, ◌&&◌, ◌||◌, List, [], ◌∷◌, length, drop, nat_eq, nat_lt, if◌then◌else◌, Option, None, Some}
 use Rattle.std.specs.List.{starts_with}
 use Rattle.encoding_streams.specs.declared.encoding.Encoding.{Encoding}
 use Rattle.encoding_streams.specs.declared.encoding.Encoding.TheVariants.{Utf8, Utf16Le, Utf16Be}
@@ -38,7 +38,3 @@ after_mark e bytes (Some m) = (m, drop (length (mark m)) bytes)
 -- the same of bytes that may start with a mark that is looked for
 abbrev pub without_mark : BomHandling → Encoding → List ℕ → Encoding × List ℕ
 without_mark bom e bytes = after_mark e bytes (found_mark bom e bytes)
-
--- no mark is looked for, or the bytes are only the start of one
-abbrev pub IsUndecided : BomHandling → Encoding → List ℕ → Type 0
-IsUndecided bom e bytes = (bom ≡ Off) ⊎ (begins_mark bom e bytes ≡ true)

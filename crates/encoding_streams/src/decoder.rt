@@ -13,31 +13,30 @@ ghost use Rattle.std.specs.Char.Escape.{encode_utf16};
 ghost use Rattle.std.specs.Str.{IsUtf8};
 ghost use Rattle.encoding_definitions.specs.Clearing.{WritesAndClears};
 ghost use Rattle.encoding_definitions.specs.Prefixes.{IsLongestPrefix};
-ghost use Rattle.encoding_streams.specs.Marks.{IsUndecided};
 ghost use Rattle.encoding_streams.specs.Decoders.{IsReportingCall, IsReplacingCall, SufficesReporting, SufficesBetweenReports, SufficesReplacing, before_clearing, decoding, queried, max_utf16_length_in, max_utf8_length_in, max_utf8_length_with_replacement_in};
 ghost use Rattle.encoding_streams.specs.DecoderSteps.{LeavesFree};
-ghost use Rattle.encoding_streams.specs.ExactCalls.{IsExactCall, IsExactReplacingCall};
+ghost use Rattle.encoding_streams.specs.ExactCalls.{AreReportLengths, IsExactCall, IsExactReplacingCall, IsPendingOf};
 
-use crate::encoding::{BomHandling, CoderResult, Encoding, begins_mark};
+use crate::encoding::{BomHandling, CoderResult, Encoding};
 use crate::utf16_decoder::pending::Pending;
 use encoding_text::ascii::ascii_valid_up_to;
 use encoding_text::decoder::DecoderResult;
 use encoding_text::mem::clear_continuation_bytes;
 use queries::{replaced_query, utf8_query, utf16_query};
 use replacing::replace;
-use state::{State, decode, is_off};
+use state::{State, decode, is_off, is_pending_of};
 use std::marker::Model;
 
 /// A streaming decoder, whose input may be split at any byte. Between calls it keeps at most three bytes that it read:
-/// the start of a mark or of a character, or bytes whose characters didn't fit. In contracts a decoder is its encoding,
-/// the marks that it looks for and the list of these bytes.
+/// the start of a mark that it looks for, or of a character. In contracts a decoder is its encoding, the marks that it
+/// looks for and the list of these bytes.
 #[derive(Drop)]
 pub struct Decoder {
     state: State,
 }
 
 impl Model for Decoder {
-    ghost use Rattle.encoding_streams.specs.Marks.{IsUndecided};
+    ghost use Rattle.encoding_streams.specs.ExactCalls.{IsPendingOf};
     ghost use Rattle.encoding_streams.specs.Decoders.{DecoderState};
     ghost use Rattle.encoding_streams.specs.DecoderSteps.{shown};
 
@@ -45,7 +44,7 @@ impl Model for Decoder {
 
     ghost view = { λ d. shown d.state };
 
-    ghost invariant = { λ d. IsUndecided d.state.bom d.state.encoding d.state.pending };
+    ghost invariant = { λ d. IsPendingOf d.state.bom d.state.encoding d.state.pending };
 }
 
 impl Encoding {
@@ -85,14 +84,6 @@ fn new_decoder_with(encoding: Encoding, bom: BomHandling) -> Decoder
     }
 }
 
-/// Returns whether no mark is looked for, or the bytes are the start of one.
-fn is_undecided(bom: BomHandling, encoding: Encoding, bytes: &[u8]) -> bool
-    ensures yes { result ≡ true → IsUndecided bom encoding bytes.now }
-    ensures no { result ≡ false → IsUndecided bom encoding bytes.now → ⊥ }
-{
-    is_off(bom) || begins_mark(bom, encoding, bytes)
-}
-
 /// Returns whether it is UTF-8.
 fn is_utf8(encoding: Encoding) -> bool
     ensures { IsTrue result ↔ (encoding ≡ Encoding.Utf8) }
@@ -105,12 +96,11 @@ impl Decoder {
     /// `encoding`, `bom_handling` and `pending` return them. If no decoder has these, nothing is pending of the one that
     /// it returns.
     pub fn from_state(encoding: Encoding, bom: BomHandling, pending: &[u8]) -> Decoder
-        ensures state { length pending.now ≤ 3 → IsUndecided bom encoding pending.now
-            → result ≡ record { encoding = encoding; bom = bom; pending = pending.now } }
-        ensures other { ((length pending.now ≤ 3) × IsUndecided bom encoding pending.now → ⊥)
-            → result ≡ record { encoding = encoding; bom = bom; pending = [] } }
+        ensures of { (result.encoding ≡ encoding) × (result.bom ≡ bom) }
+        ensures state { IsPendingOf bom encoding pending.now → result.pending ≡ pending.now }
+        ensures other { (IsPendingOf bom encoding pending.now → ⊥) → result.pending ≡ [] }
     {
-        if pending.len() > 3 || !is_undecided(bom, encoding, pending) {
+        if pending.is_empty() || pending.len() > 3 || !is_pending_of(bom, encoding, pending) {
             return new_decoder_with(encoding, bom);
         }
         Decoder {
@@ -131,17 +121,18 @@ impl Decoder {
 
     /// Returns which marks it looks for: none, once the stream's first bytes are known.
     pub fn bom_handling(&self) -> BomHandling
-        ensures bom { result ≡ self.now.bom }
-        ensures undecided { IsUndecided self.now.bom self.now.encoding self.now.pending }
+        ensures { result ≡ self.now.bom }
     {
         self.state.bom
     }
 
-    /// Returns an array that starts with the bytes that were read and are still to be decoded, and how many they are.
+    /// Returns an array that starts with the bytes that were read and are still to be decoded, and how many they are: the
+    /// start of a mark that is looked for, or, if none is, the start of a character or none.
     pub fn pending(&self) -> ([u8; 4], usize)
         ensures bytes { take result.1 result.0 ≡ self.now.pending }
         ensures count { result.1 ≡ length self.now.pending }
         ensures within { result.1 ≤ 3 }
+        ensures pending { IsPendingOf self.now.bom self.now.encoding self.now.pending }
     {
         self.state.pending.bytes()
     }
@@ -203,6 +194,7 @@ impl Decoder {
     ///
     /// Pass the unread bytes again. Once a call marked last returns `InputEmpty`, the code units of all calls are the text
     /// of the stream without its mark, in any pieces and destinations. If two code units are left, a call goes on.
+    /// A call that returns `OutputFull`, and reads and writes nothing, leaves the decoder as it was.
     pub fn decode_to_utf16(
         &mut self,
         src: &[u8],
@@ -229,6 +221,7 @@ impl Decoder {
     ///
     /// Pass the unread bytes again. Once a call marked last returns `InputEmpty`, the bytes of all calls are the text of
     /// the stream without its mark, in any pieces and destinations. If four bytes are left, a call goes on.
+    /// A call that returns `OutputFull`, and reads and writes nothing, leaves the decoder as it was.
     pub fn decode_to_utf8(
         &mut self,
         src: &[u8],
@@ -283,8 +276,8 @@ impl Decoder {
     /// `last` says that no bytes follow `src`.
     ///
     /// A malformed sequence is returned as `Malformed` and nothing is written for it. Its first number is the length of
-    /// the sequence, one to three bytes. The second is the number of bytes read after it, which stay pending. Two code
-    /// units of `dst` are left then. To continue, write U+FFFD and pass the unread bytes again.
+    /// the sequence, one to three bytes. The second is the number of bytes read after it, at most one, which stay
+    /// pending. Two code units of `dst` are left then. To continue, write U+FFFD and pass the unread bytes again.
     pub fn decode_to_utf16_without_replacement(
         &mut self,
         src: &[u8],
@@ -295,6 +288,7 @@ impl Decoder {
             result.0 result.1 result.2 self.new }
         ensures exact { IsExactCall encode_utf16 2 self.old src.now (length dst.old) last
             result.0 result.1 (take result.2 dst.new) self.new }
+        ensures lengths { AreReportLengths result.0 }
         ensures free { LeavesFree 2 self.old.pending src.now (length dst.old) result.0 result.2 }
 
         // If `src` has at most `byte_length` bytes and `dst` has the length that `max_utf16_buffer_length(byte_length)`
@@ -313,8 +307,8 @@ impl Decoder {
     /// `last` says that no bytes follow `src`.
     ///
     /// A malformed sequence is returned as `Malformed` and nothing is written for it. Its first number is the length of
-    /// the sequence, one to three bytes. The second is the number of bytes read after it, which stay pending. Four bytes
-    /// of `dst` are left then. To continue, write U+FFFD and pass the unread bytes again.
+    /// the sequence, one to three bytes. The second is the number of bytes read after it, at most one, which stay
+    /// pending. Four bytes of `dst` are left then. To continue, write U+FFFD and pass the unread bytes again.
     pub fn decode_to_utf8_without_replacement(
         &mut self,
         src: &[u8],
@@ -326,6 +320,7 @@ impl Decoder {
         ensures exact { IsExactCall encode_utf8 4 self.old src.now (length dst.old) last
             result.0 result.1 (take result.2 dst.new) self.new }
         ensures text { IsUtf8 (take result.2 dst.new) }
+        ensures lengths { AreReportLengths result.0 }
         ensures free { LeavesFree 4 self.old.pending src.now (length dst.old) result.0 result.2 }
 
         // If `src` has at most `byte_length` bytes and `dst` has the length that `max_utf8_buffer_length(byte_length)` or
@@ -364,6 +359,7 @@ impl Decoder {
         ensures unchanged_after { WritesAndClears 0 dst.old dst.new result.2
             (take result.2 dst.new) }
         ensures text { IsUtf8 dst.new }
+        ensures lengths { AreReportLengths result.0 }
         ensures free { LeavesFree 4 self.old.pending src.now (length dst.old) result.0 result.2 }
 
         // If `src` has at most `byte_length` bytes and `dst` has the length that `max_utf8_buffer_length(byte_length)` or

@@ -188,6 +188,38 @@ fn holds_nothing_back(rt: HostRuntime) {
     assert!(rt; text == *b"a");
 }
 
+/// The start of a mark, the bytes that show it to be none, and the text of both.
+const STARTS: [(Encoding, &[u8], &[u8], &[u16]); 8] = [
+    (Encoding::Utf8, b"\xEF", b"a", &[0xFFFD, 0x61]),
+    (Encoding::Utf8, b"\xEF\xBB", b"a", &[0xFFFD, 0x61]),
+    (Encoding::Utf8, b"\xFE", b"a", &[0xFFFD, 0x61]),
+    (Encoding::Utf8, b"\xFF", b"a", &[0xFFFD, 0x61]),
+    (Encoding::Utf16Le, b"\xEF", b"a", &[0x61EF]),
+    (Encoding::Utf16Le, b"\xEF\xBB", b"a\0", &[0xBBEF, 0x61]),
+    (Encoding::Utf16Be, b"\xFE", b"a", &[0xFE61]),
+    (Encoding::Utf16Be, b"\xEF\xBB", b"\0a", &[0xEFBB, 0x61]),
+];
+
+/// A call with no space leaves the decoder as it was, and looks for the mark again.
+#[test]
+fn a_full_destination_changes_nothing(rt: HostRuntime) {
+    for (encoding, start, src, text) in &STARTS {
+        let mut decoder = encoding.new_decoder();
+        let mut units = [0; 2];
+        let result = decoder.decode_to_utf16(start, &mut units, false);
+        assert!(rt; result == (CoderResult::InputEmpty, start.len(), 0, 0));
+        let result = decoder.decode_to_utf16(src, &mut [], false);
+        assert!(rt; result == (CoderResult::OutputFull, 0, 0, 0));
+        let (pending, count) = decoder.pending();
+        assert!(rt; pending.get(..count) == Some(*start));
+        assert!(rt; decoder.bom_handling() == BomHandling::Sniff);
+        let (result, _, written, _) = decoder.decode_to_utf16(src, &mut units, true);
+        assert!(rt; result == CoderResult::InputEmpty);
+        assert!(rt; units.get(..written) == Some(*text));
+        assert!(rt; decoder.encoding() == *encoding);
+    }
+}
+
 /// With nothing to read a call ends, also if a character is pending and nothing fits.
 #[test]
 fn ends_with_nothing_to_read(rt: HostRuntime) {

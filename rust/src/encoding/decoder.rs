@@ -157,8 +157,8 @@ impl Decoder {
     /// `last` says that no bytes follow `src`. The rest of `dst` is unchanged.
     ///
     /// A malformed sequence ends the call, and nothing is written for it. The first number of
-    /// [`DecoderResult::Malformed`] is its length. The second is the number of bytes read after it, which are pending.
-    /// Pass the unread bytes again.
+    /// [`DecoderResult::Malformed`] is its length, one to three. The second is the number of bytes read after it, at most
+    /// one, which are pending. Pass the unread bytes again.
     ///
     /// [Proved](crate::promises#encodings).
     #[inline]

@@ -1,5 +1,6 @@
 //! The decoders of one encoding each, as one.
 ghost use Rattle.std.specs.Prelude.{◌≡◌, ◌↔◌, ℕ, ◌+◌, ◌<◌, ◌≤◌, [], List, length, take, IsTrue};
+ghost use Rattle.std.specs.Char.{IsScalar};
 ghost use Rattle.encoding_definitions.specs.Prefixes.{WritesPrefix};
 ghost use Rattle.encoding_streams.specs.Decoders.{IsReportingCall, SufficesReporting, SufficesBetweenReports, decoding, max_utf16_length_in, max_utf8_length_in, max_utf8_length_with_replacement_in};
 ghost use Rattle.encoding_streams.specs.declared.encoding.Encoding.{Encoding};
@@ -91,6 +92,7 @@ pub(crate) trait Output: CodeUnit {
         ensures length { result ≡ length (Self.encode 0xFFFD) }
         ensures some { 0 < result }
         ensures at_most { result ≤ Self.need }
+        ensures some_units { (c : ℕ) → IsScalar c → 0 < length (Self.encode c) }
         ensures grows { (e : Encoding) (n p m q : ℕ) → n + p ≤ m + q → query e n p ≤ query e m q }
         ensures grows_replacing { (e : Encoding) (n p m q : ℕ) → n + p ≤ m + q
             → replacing e n p ≤ replacing e m q }

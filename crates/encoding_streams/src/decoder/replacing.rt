@@ -1,9 +1,8 @@
 //! Calls that write U+FFFD for each malformed sequence.
 ghost use Rattle.std.specs.Prelude.{◌≤◌, length, take};
-ghost use Rattle.encoding_streams.specs.Marks.{IsUndecided};
 ghost use Rattle.encoding_streams.specs.Decoders.{IsReplacingCall, SufficesReplacing};
 ghost use Rattle.encoding_streams.specs.DecoderSteps.{IsExactStep, IsReplacingStep, shown};
-ghost use Rattle.encoding_streams.specs.ExactCalls.{IsExactReplacingCall};
+ghost use Rattle.encoding_streams.specs.ExactCalls.{IsExactReplacingCall, IsPendingOf};
 
 use super::inner::Output;
 use super::state::{State, decode};
@@ -19,8 +18,8 @@ fn replace_one<U: Output>(
     dst: &mut [U],
     last: bool,
 ) -> (Option<CoderResult>, usize, usize)
-    requires undecided { IsUndecided state.old.bom state.old.encoding state.old.pending }
-    ensures undecided { IsUndecided state.new.bom state.new.encoding state.new.pending }
+    requires pending { IsPendingOf state.old.bom state.old.encoding state.old.pending }
+    ensures pending { IsPendingOf state.new.bom state.new.encoding state.new.pending }
     ensures step { IsReplacingStep U.encode U.need U.replacing
         (shown state.old) src.now dst.old dst.new
         last result.0 result.1 result.2 (shown state.new) }
@@ -47,8 +46,8 @@ fn replace_all<U: Output>(
     dst: &mut [U],
     last: bool,
 ) -> (CoderResult, usize, usize, usize)
-    requires undecided { IsUndecided state.old.bom state.old.encoding state.old.pending }
-    ensures undecided { IsUndecided state.new.bom state.new.encoding state.new.pending }
+    requires pending { IsPendingOf state.old.bom state.old.encoding state.old.pending }
+    ensures pending { IsPendingOf state.new.bom state.new.encoding state.new.pending }
     ensures call { IsReplacingCall U.encode U.need (shown state.old) src.now dst.old dst.new last
         result.0 result.1 result.2 result.3 (shown state.new) }
     ensures exact { IsExactReplacingCall U.encode U.need (shown state.old) src.now
@@ -87,8 +86,8 @@ pub(super) fn replace<U: Output>(
     dst: &mut [U],
     last: bool,
 ) -> (CoderResult, usize, usize, usize)
-    requires undecided { IsUndecided state.old.bom state.old.encoding state.old.pending }
-    ensures undecided { IsUndecided state.new.bom state.new.encoding state.new.pending }
+    requires pending { IsPendingOf state.old.bom state.old.encoding state.old.pending }
+    ensures pending { IsPendingOf state.new.bom state.new.encoding state.new.pending }
     ensures call { IsReplacingCall U.encode U.need (shown state.old) src.now dst.old dst.new last
         result.0 result.1 result.2 result.3 (shown state.new) }
     ensures exact { IsExactReplacingCall U.encode U.need (shown state.old) src.now

@@ -1,14 +1,15 @@
 //! What a decoder keeps between calls, and its calls that report malformed sequences.
 ghost use Rattle.std.specs.Prelude.{take, ◌≢◌, ◌⊎◌, ◌-◌, false, ◌≡◌, ◌↔◌, ℕ, ◌<◌, ◌≤◌, true, List, [], ◌++◌, length, IsTrue};
-ghost use Rattle.encoding_streams.specs.Marks.{IsUndecided};
+ghost use Rattle.encoding_definitions.specs.Sequence.{IsIncomplete};
 ghost use Rattle.encoding_streams.specs.Decoders.{decoding};
 ghost use Rattle.encoding_streams.specs.DecoderSteps.{IsSniffed, IsStop, LeavesFree, Reports, shown, state_of};
-ghost use Rattle.encoding_streams.specs.ExactCalls.{Decodes, IsExactCall, IsIdle, reported_with};
+ghost use Rattle.encoding_streams.specs.ExactCalls.{AreReportLengths, Decodes, IsExactCall, IsIdle, IsPendingIn, IsPendingOf, reported_with};
 
 use super::inner::{Inner, Output};
 use super::is_utf8;
 use crate::encoding::{BomHandling, Encoding, begins_mark, found_mark, mark_length};
 use crate::utf16_decoder::pending::Pending;
+use encoding_kernels::scalar::{begins_several, is_continuation, is_second};
 use encoding_text::decoder::DecoderResult;
 
 /// The encoding, the marks that are looked for, and the bytes that were read and are still to be decoded.
@@ -28,10 +29,49 @@ pub(crate) fn is_off(bom: BomHandling) -> bool
     matches!(bom, BomHandling::Off)
 }
 
+/// Returns whether the bytes are an incomplete sequence.
+fn is_incomplete(bytes: &[u8]) -> bool
+    ensures yes { result ≡ true → IsIncomplete bytes.now }
+    ensures no { result ≡ false → IsIncomplete bytes.now → ⊥ }
+{
+    match *bytes {
+        [first] => begins_several(first),
+        [first, second] => first >= 0xE0 && is_second(first, second),
+        [first, second, third] => {
+            first >= 0xF0 && is_second(first, second) && is_continuation(third)
+        }
+        _ => false,
+    }
+}
+
+/// Returns whether the bytes are none or the start of a character of the encoding.
+fn is_pending_in(encoding: Encoding, bytes: &[u8]) -> bool
+    ensures yes { result ≡ true → IsPendingIn encoding bytes.now }
+    ensures no { result ≡ false → IsPendingIn encoding bytes.now → ⊥ }
+{
+    if is_utf8(encoding) {
+        return bytes.is_empty() || is_incomplete(bytes);
+    }
+    let mut inner = Inner::new(encoding);
+    u16::decode(&mut inner, bytes, &mut [0; 2], false);
+    inner.pending_length() == bytes.len()
+}
+
+/// Returns whether a decoder that looks for these marks may have the bytes pending.
+pub(crate) fn is_pending_of(bom: BomHandling, encoding: Encoding, bytes: &[u8]) -> bool
+    ensures yes { result ≡ true → IsPendingOf bom encoding bytes.now }
+    ensures no { result ≡ false → IsPendingOf bom encoding bytes.now → ⊥ }
+{
+    if is_off(bom) {
+        return is_pending_in(encoding, bytes);
+    }
+    begins_mark(bom, encoding, bytes)
+}
+
 /// Looks for a mark at the start of the pending bytes followed by `src`, and returns how many bytes of `src` it read.
 #[inline(never)]
 fn look_for_mark(state: &mut State, src: &[u8], last: bool) -> usize
-    requires undecided { IsUndecided state.old.bom state.old.encoding state.old.pending }
+    requires pending { IsPendingOf state.old.bom state.old.encoding state.old.pending }
     ensures { IsSniffed (shown state.old) src.now last (shown state.new) result }
 {
     let before = state.pending.len();
@@ -54,7 +94,7 @@ fn look_for_mark(state: &mut State, src: &[u8], last: bool) -> usize
 /// Looks for a mark as `look_for_mark` does, if any is looked for.
 #[inline(always)]
 fn sniff(state: &mut State, src: &[u8], last: bool) -> usize
-    requires undecided { IsUndecided state.old.bom state.old.encoding state.old.pending }
+    requires pending { IsPendingOf state.old.bom state.old.encoding state.old.pending }
     ensures { IsSniffed (shown state.old) src.now last (shown state.new) result }
 {
     // its length is at most three
@@ -247,6 +287,17 @@ fn decode_decided<U: Output>(
     decode_pending::<U>(state, src, dst, last)
 }
 
+/// Returns whether a call has no space for anything: it read and wrote nothing.
+#[inline(always)]
+fn makes_no_progress(ended: &DecoderResult, read: usize, written: usize) -> bool
+    ensures yes { result ≡ true
+        → (ended.now ≡ DecoderResult.OutputFull) × (read ≡ 0) × (written ≡ 0) }
+    ensures no { result ≡ false
+        → (ended.now ≡ DecoderResult.OutputFull) × (read ≡ 0) × (written ≡ 0) → ⊥ }
+{
+    read == 0 && written == 0 && matches!(ended, DecoderResult::OutputFull)
+}
+
 /// Decodes as `decode` does, with any encoding, any marks and any pending bytes.
 #[inline(always)]
 fn decode_any<U: Output>(
@@ -255,20 +306,26 @@ fn decode_any<U: Output>(
     dst: &mut [U],
     last: bool,
 ) -> (DecoderResult, usize, usize)
-    requires undecided { IsUndecided state.old.bom state.old.encoding state.old.pending }
-    ensures undecided { IsUndecided state.new.bom state.new.encoding state.new.pending }
+    requires pending { IsPendingOf state.old.bom state.old.encoding state.old.pending }
+    ensures pending { IsPendingOf state.new.bom state.new.encoding state.new.pending }
     ensures reports { Reports U.encode U.need U.query U.replacing (shown state.old) src.now
         dst.old dst.new last result.0 result.1 result.2 (shown state.new) }
     ensures exact { IsExactCall U.encode U.need (shown state.old) src.now (length dst.old) last
         result.0 result.1 (take result.2 dst.new) (shown state.new) }
+    ensures lengths { AreReportLengths result.0 }
     ensures free { LeavesFree U.need state.old.pending src.now (length dst.old) result.0 result.2 }
 {
     let _length = U::replacement_length();
+    let bom = state.bom;
     let sniffed = sniff(state, src, last);
     if is_at_end(state.bom, sniffed, src.len()) {
         return (DecoderResult::InputEmpty, sniffed, 0);
     }
     let (result, read, written) = decode_decided::<U>(state, &src[sniffed..], dst, last);
+    if makes_no_progress(&result, sniffed + read, written) {
+        state.bom = bom;
+        return (DecoderResult::OutputFull, 0, 0);
+    }
     (result, sniffed + read, written)
 }
 
@@ -291,14 +348,16 @@ pub(crate) fn decode<U: Output>(
     dst: &mut [U],
     last: bool,
 ) -> (DecoderResult, usize, usize)
-    requires undecided { IsUndecided state.old.bom state.old.encoding state.old.pending }
-    ensures undecided { IsUndecided state.new.bom state.new.encoding state.new.pending }
+    requires pending { IsPendingOf state.old.bom state.old.encoding state.old.pending }
+    ensures pending { IsPendingOf state.new.bom state.new.encoding state.new.pending }
     ensures reports { Reports U.encode U.need U.query U.replacing (shown state.old) src.now
         dst.old dst.new last result.0 result.1 result.2 (shown state.new) }
     ensures exact { IsExactCall U.encode U.need (shown state.old) src.now (length dst.old) last
         result.0 result.1 (take result.2 dst.new) (shown state.new) }
+    ensures lengths { AreReportLengths result.0 }
     ensures free { LeavesFree U.need state.old.pending src.now (length dst.old) result.0 result.2 }
 {
+    let _length = U::replacement_length();
     if is_plain(state) {
         return decode_neutral_utf8::<U>(state, src, dst, last);
     }

@@ -11,5 +11,5 @@ returns c =
       stood = c.restored-inner.ensures;
       stands = c.stored.ensures;
       reported = d.reported;
-      says = rw (d.counts.0, d.counts.1) (s.call, s.suffices, s.suffices_replacing);
+      says = rw (d.counts.0, d.counts.1) (s.call, s.exact, s.lengths, s.suffices, s.suffices_replacing);
     }

@@ -8,5 +8,5 @@ returns c = record {
   stood = c.restored-inner.ensures;
   stands = c.stored.ensures;
   reported = c.coder_number.ensures;
-  says = (c.decode_to_utf8-ended.ensures.call, c.decode_to_utf8-ended.ensures.suffices);
+  says = (c.decode_to_utf8-ended.ensures.call, c.decode_to_utf8-ended.ensures.exact, c.decode_to_utf8-ended.ensures.suffices);
 }

@@ -32,14 +32,14 @@ loop-result-preserved g c =
           c.in-None.is;
       exact = then_step g.U.CodeUnit.encode g.U.CodeUnit.need _ _ _ _ _ _ _ _ _ _ _ _ _ c.loop-result.invariant.steps.replaces.writes
           step.ensures.step.replaces.writes _ _ c.loop-result.invariant.exact (rw c.in-None.is at step.ensures.exact);
-      undecided = step.ensures.undecided;
+      pending = step.ensures.pending;
     }
 
 pub loop-result-init : goal.loop-result-init
 loop-result-init g c = record {
   steps = no_steps g.U.CodeUnit.encode g.U.Output.replacing _ _ _ _ (omega (arith, c.len-length.ensures.length, c.len-length.ensures.within));
   exact = none_replaced g.U.CodeUnit.encode g.U.CodeUnit.need _ _ _ _;
-  undecided = c.requires.undecided;
+  pending = c.requires.pending;
 }
 
 pub returns-in-Some-clause-exact : goal.returns-in-Some-clause-exact

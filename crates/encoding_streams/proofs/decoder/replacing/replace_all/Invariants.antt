@@ -1,6 +1,6 @@
 use Rattle.std.proofs.Common.{◌+◌, ◌-◌, length, take}
-use Rattle.encoding_streams.specs.Marks.{IsUndecided}
 use Rattle.encoding_streams.specs.DecoderSteps.{AreReplacingSteps, Continues, shown}
+use Rattle.encoding_streams.specs.ExactCalls.{IsPendingOf}
 use Rattle.encoding_streams.proofs.decoder.replacing.replace_all.Given as goal
 
 abbrev pub invariant-loop-result : goal.invariant-loop-result
@@ -10,7 +10,7 @@ invariant-loop-result g l =
           (shown l.fn.state) l.src l.fn.dst l.dst l.last l.read l.written l.replaced (shown l.state);
       exact : Continues g.U.CodeUnit.encode g.U.CodeUnit.need (shown l.fn.state) (shown l.state) l.src (length l.fn.dst) l.last l.read
           (take l.written l.dst) l.replaced;
-      undecided : IsUndecided l.state.bom l.state.encoding l.state.pending;
+      pending : IsPendingOf l.state.bom l.state.encoding l.state.pending;
     }
 
 abbrev pub decreases-loop-result : goal.decreases-loop-result

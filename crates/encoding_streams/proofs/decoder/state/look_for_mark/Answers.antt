@@ -8,7 +8,7 @@ pub returns-in-Some : goal.returns-in-Some
 returns-in-Some c =
     let s = c.args.state.now in
     let found = ap (found_mark s.bom s.encoding) (sym c.followed_by-count.ensures.bytes) ∙ sym c.found_mark.ensures ∙ c.in-Some.is in
-    rw c.none-state.ensures (sniff_found s.bom s.encoding s.pending c.args.src.now c.args.last c.in-Some.encoding c.requires.undecided found _
+    rw c.none-state.ensures (sniff_found s.bom s.encoding s.pending c.args.src.now c.args.last c.in-Some.encoding c.requires.pending found _
     (omega (arith, c.mark_length.ensures, c.len-before.ensures.length)))
 
 pub returns-then-begins_mark : goal.returns-then-begins_mark
