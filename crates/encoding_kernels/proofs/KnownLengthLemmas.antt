@@ -45,7 +45,7 @@ four : (pairs : Bool) (b : ℕ) → 0xF0 ≤ b → begins_by pairs b ≡ 1 + boo
 four true b l = grind (arith, nat_tests)
 four false b l = grind (arith, nat_tests)
 
-second_continues : (a b : ℕ) → IsSecond a b → IsContinuation b
+pub second_continues : (a b : ℕ) → IsSecond a b → IsContinuation b
 second_continues a b s = grind (arith, nat_tests)
 
 shape_begun : (pairs : Bool) (x rest : List ℕ) → HasShape x
@@ -67,7 +67,8 @@ shape_begun false (a ∷ b ∷ c ∷ d ∷ []) rest (l, m, s, t, f) =
 shape_begun pairs (a ∷ b ∷ c ∷ d ∷ e ∷ more) rest h = absurd h
 
 character_begun : (pairs : Bool) (c : ℕ) (rest : List ℕ) → IsScalar c
-    → sum_over_suffixes (begins pairs) (encode_utf8 c ++ rest) ≡ 1 + bool_byte (pairs && nat_le 4 (length (encode_utf8 c))) + sum_over_suffixes (begins pairs) rest
+    → sum_over_suffixes (begins pairs) (encode_utf8 c ++ rest)
+    ≡ 1 + bool_byte (pairs && nat_le 4 (length (encode_utf8 c))) + sum_over_suffixes (begins pairs) rest
 character_begun pairs c rest s = shape_begun pairs (encode_utf8 c) rest (HasShape-IsSequence (encode_utf8 c) (IsSequence-encode c s))
 
 -- ---- by all of a text
@@ -97,4 +98,5 @@ characters_begun bs u =
 
 pub units_begun : (bs : List ℕ) → IsUtf8 bs → sum_over_suffixes (begins true) bs ≡ length (flat_map encode_utf16 (chars bs))
 units_begun bs u =
-    subst (λ xs. sum_over_suffixes (begins true) xs ≡ length (flat_map encode_utf16 (chars bs))) (encodes-chars bs u) (units_total (chars bs) (scalars-chars bs u))
+    subst (λ xs. sum_over_suffixes (begins true) xs ≡ length (flat_map encode_utf16 (chars bs))) (encodes-chars bs u)
+    (units_total (chars bs) (scalars-chars bs u))

@@ -3,17 +3,17 @@ use Rattle.std.proofs.Common.{◌≡◌, ◌≢◌, ℕ, ◌<◌, ◌≤◌, inl
 use Rattle.std.proofs.Common.{slice_index, refl, sym, ap, ◌∙◌, arith, subst, ◌⊎◌, ◌-◌, true, false, map, encode_utf8_all}
 use Rattle.std.proofs.lemmas.Bool.{cases_Bool, cases_lt}
 use Rattle.std.proofs.lemmas.List.{length-append, take-append-drop, take_all, drop_all, take_more, drop_more, append-nil, append_assoc}
-use Rattle.encoding_definitions.specs.Sequence.{IsSequence, IsIncomplete, IsNeverLeading, IsContinuation, IsSecond, IsPending}
+use Rattle.encoding_definitions.specs.Sequence.{IsSequence, IsIncomplete, IsNeverLeading, IsContinuation, IsPending}
 use Rattle.encoding_definitions.specs.Parts.{BeginsWithNoCharacter, Part, Character, IllFormed, IsFirstPart, StartsWith, Yields}
 use Rattle.encoding_text.specs.Steps.{IsRejected, IsResultAtEnd, IsResultWithoutCharacter}
 use Rattle.encoding_text.specs.Decoding.{IsMalformed, IsReported, AreDecoded, DecodeStep, IsDecodeResult}
 use Rattle.encoding_text.specs.declared.decoder.DecoderResult.{DecoderResult}
 use Rattle.encoding_text.specs.declared.decoder.DecoderResult.TheVariants.{InputEmpty, OutputFull, Malformed}
 use Rattle.encoding_definitions.proofs.SequenceLemmas.{HasShape-IsSequence, IsSequence-HasShape, HasOpenShape-IsIncomplete, second_more}
-use Rattle.std.proofs.lemmas.Bool.Decides.{nat_tests}
 use Rattle.std.specs.Str.{all_scalars}
 use Rattle.encoding_definitions.proofs.PartsLemmas.{first_unpaired, first_open, first_rejected, same_first_part}
 use Rattle.encoding_definitions.proofs.DecompositionLemmas.{StartsWith-characters, StartsWith-append, StartsWith-one}
+use Rattle.encoding_kernels.proofs.KnownLengthLemmas.{second_continues}
 
 -- ---- malformed sequences
 pub malformed_unpaired : (b : ℕ) (rest : List ℕ) (last : Bool) → IsNeverLeading b → IsMalformed (b ∷ []) rest last
@@ -54,9 +54,6 @@ ended_open r q after last (Malformed k second) o all (zero, count, none, begun, 
       subst (λ xs. IsMalformed xs (drop k r) last) (sym prefix)
           (subst (λ xs. IsMalformed r xs last) (sym (drop_all k r (omega (arith, size)))) (inr (o, l))),
     )
-
-pub second_continues : (a b : ℕ) → IsSecond a b → IsContinuation b
-second_continues a b s = grind (arith, nat_tests)
 
 -- the second byte of a well-formed or an incomplete sequence
 second_of : (a b : ℕ) → IsSequence (a ∷ b ∷ []) ⊎ IsIncomplete (a ∷ b ∷ []) → IsContinuation b
