@@ -1,9 +1,11 @@
 //! Tests only: each public call of `encoding_runs`, by rows and published vectors; every offset at which a stream may
-//! fail, and long input. `tests/ROWS.md` has every row.
+//! fail, and long input; and the calls of `utf8_check_library`. `tests/ROWS.md` has every row.
 #![tactic(auto)]
 
 #[cfg(test)]
 mod assertions;
+#[cfg(test)]
+mod check_rows;
 #[cfg(test)]
 mod encoder_run_rows;
 #[cfg(test)]

@@ -2,17 +2,8 @@
 //! malformed, and its offset.
 #![tactic(auto)]
 
-mod arguments;
-mod input;
-mod line;
-mod names;
-mod place;
 mod service;
-#[cfg(test)]
-mod tests;
 
-pub use input::{Fault, Mode, check};
-pub use place::Columns;
 use service::run;
 use std::process::ExitCode;
 

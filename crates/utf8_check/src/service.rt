@@ -1,11 +1,11 @@
 //! One run of the program: its inputs, and what it writes.
 ghost use Rattle.std.specs.Prelude.{◌≤◌};
 
-use crate::arguments::{Instead, Request, request_of};
-use crate::input::{Fault, Mode, check};
-use crate::names::{STANDARD_INPUT, arguments, shown};
 use std::fs::File;
 use std::io::{self, BufRead, BufReader, BufWriter, ErrorKind, Read, Stdout, Write};
+use utf8_check_library::arguments::{Instead, Request, request_of};
+use utf8_check_library::names::{STANDARD_INPUT, arguments, shown};
+use utf8_check_library::{Fault, Mode, check};
 
 const SOUND: u8 = 0;
 
