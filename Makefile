@@ -42,7 +42,7 @@ $(error CPU=$(CPU) is none of these: $(CPUS))
 endif
 
 PROGRAMS = utf8_repair utf8_check
-CRATES = encoding_definitions encoding_kernels encoding_text encoding_runs encoding_streams encoding_c $(PROGRAMS)
+CRATES = encoding_definitions encoding_kernels encoding_text encoding_runs encoding_streams encoding_c utf8_check_library $(PROGRAMS)
 FOLDERS = $(foreach name,$(CRATES),$(foreach part,src specs proofs,$(wildcard crates/$(name)/$(part))))
 SOURCES := $(shell find $(FOLDERS) -name '*.rt' -o -name '*.antt')
 BUILT = libencoding_text.a $(SHARED) $(PROGRAMS)
