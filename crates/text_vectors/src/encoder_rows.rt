@@ -30,7 +30,8 @@ impl Table for Vectors {
 
     const COUNT: usize = 16;
 
-    /// The same is written marked last or not, except for a high surrogate that ends a call not marked last.
+    /// The UTF-8 of a row is written by a call marked last, and by one that isn't. But a high surrogate that ends the
+    /// second isn't written: it is pending then.
     fn holds(&mut self, row: &mut Row<'_>) -> bool {
         let source = Source::of(row);
         let (bytes, surrogate) = if source.units.as_slice() == [0xD800].as_slice() {
