@@ -41,7 +41,7 @@ pub fn repair_block(
         (length dst.old) last result result.read out decoder.new }
 {
     // Without a call of the decoder no other clause says that the pending bytes are none or an incomplete sequence.
-    prove!(decoder.pending().1 <= 3);
+    let _neutral = decoder.in_neutral_state();
     let mut block = RepairedBlock {
         read: 0,
         written: 0,

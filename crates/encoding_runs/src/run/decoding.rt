@@ -122,7 +122,7 @@ fn run<U: Decoded>(
         decoder.old src.now turns.now (length dst.old) result.result }
 {
     // Without turns no other clause says that the pending bytes are none or an incomplete sequence.
-    prove!(decoder.pending().1 <= 3);
+    let _neutral = decoder.in_neutral_state();
     let mut outcome = Outcome {
         read: 0,
         written: 0,

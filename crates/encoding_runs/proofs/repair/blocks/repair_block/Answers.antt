@@ -17,7 +17,7 @@ returns-then-left-lt-REPLACEMENT_LENGTH c =
     let none : length rest ≡ 0 = none_there c.is_empty.result (length rest) c.is_empty.ensures c.if-is_empty.true in
     let all : length c.args.src.now - c.loop-rest.block.read ≡ 0 = sym (length-drop c.loop-rest.block.read c.args.src.now)
     ∙ sym (ap length (take_rest c.args.src.now c.loop-rest.block.read)) ∙ none in
-    block_rejected _ _ _ _ _ _ _ _ _ _ c.pending.ensures.pending c.loop-rest.invariant.done all c.if-left-lt-REPLACEMENT_LENGTH.true
+    block_rejected _ _ _ _ _ _ _ _ _ _ c.in_neutral_state-neutral.ensures.pending c.loop-rest.invariant.done all c.if-left-lt-REPLACEMENT_LENGTH.true
     (elim c.if-not-last.branch [
       | then-not-last w ↦ rw w.block-is ((λ _ marked. absurd (both_ways _ w.if-not-last.true marked)), λ _. ap not w.if-not-last.true)
       | else-not-last w ↦ rw w.block-is ((λ e _. w.in_neutral_state.ensures.neutral.0 e), λ e. w.in_neutral_state.ensures.neutral.1 (e w.if-not-last.false))
@@ -26,12 +26,12 @@ returns-then-left-lt-REPLACEMENT_LENGTH c =
 pub returns-in-InputEmpty : goal.returns-in-InputEmpty
 returns-in-InputEmpty c =
     let call = rw (take_rest c.args.src.now c.loop-rest.block.read, c.in-InputEmpty.is) at c.decode_to_utf8_raw-result.ensures.call in
-    block_finished _ _ _ _ _ _ _ _ _ _ _ _ _ c.pending.ensures.pending c.loop-rest.invariant.done call
+    block_finished _ _ _ _ _ _ _ _ _ _ _ _ _ c.in_neutral_state-neutral.ensures.pending c.loop-rest.invariant.done call
 
 pub returns-in-OutputFull : goal.returns-in-OutputFull
 returns-in-OutputFull c =
     let call = rw (take_rest c.args.src.now c.loop-rest.block.read, c.in-OutputFull.is) at c.decode_to_utf8_raw-result.ensures.call in
-    rw c.loop-rest.invariant.unfinished (block_full _ _ _ _ _ _ _ _ _ _ _ _ _ c.pending.ensures.pending c.loop-rest.invariant.done call)
+    rw c.loop-rest.invariant.unfinished (block_full _ _ _ _ _ _ _ _ _ _ _ _ _ c.in_neutral_state-neutral.ensures.pending c.loop-rest.invariant.done call)
 
 pub write_scalar-requires-clause-dst_length : goal.write_scalar-requires-clause-dst_length
 write_scalar-requires-clause-dst_length c =
@@ -44,7 +44,7 @@ write_scalar-requires-clause-dst_length c =
           (both_ways _ w.if-is_empty.false (c.is_empty.ensures ∙ ap (λ n. n == 0) (ap length (take_rest c.args.src.now c.loop-rest.block.read)
           ∙ length-drop c.loop-rest.block.read c.args.src.now ∙ all)))
     ] in
-    block_fits _ _ _ _ _ _ _ _ _ _ _ _ _ c.pending.ensures.pending c.loop-rest.invariant.done c.in-Malformed.field-0
+    block_fits _ _ _ _ _ _ _ _ _ _ _ _ _ c.in_neutral_state-neutral.ensures.pending c.loop-rest.invariant.done c.in-Malformed.field-0
     c.in-Malformed.field-1 call at_end
 
 pub loop-rest-preserved : goal.loop-rest-preserved

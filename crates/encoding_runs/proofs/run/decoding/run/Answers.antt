@@ -47,7 +47,7 @@ loop-turn-preserved g c =
 pub returns-clause-delivers : goal.returns-clause-delivers
 returns-clause-delivers g c =
     let all = take_all c.loop-turn.turn-index c.args.turns.now (omega arith) in
-    delivers _ _ _ _ _ _ _ _ _ _ _ c.pending.ensures.pending (rw all at c.loop-turn.invariant.run)
+    delivers _ _ _ _ _ _ _ _ _ _ _ c.in_neutral_state-neutral.ensures.pending (rw all at c.loop-turn.invariant.run)
 
 pub returns-clause-completes : goal.returns-clause-completes
 returns-clause-completes g c =
