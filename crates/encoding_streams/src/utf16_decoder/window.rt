@@ -1,7 +1,7 @@
 //! What the next bytes start with.
-ghost use Rattle.std.specs.Prelude.{◌≡◌, ◌<◌, ◌≤◌, ℕ, false, length, take, drop, IsTrue};
+ghost use Rattle.std.specs.Prelude.{◌≡◌, ◌<◌, ◌≤◌, ℕ, true, false, length, take, drop, IsTrue};
 ghost use Rattle.encoding_text.specs.Utf16Bytes.{unit_bytes};
-ghost use Rattle.encoding_streams.specs.Utf16Parts.{IsMalformedUtf16};
+ghost use Rattle.encoding_streams.specs.Utf16Parts.{IsMalformedUtf16, IsPendingUtf16};
 ghost use Rattle.encoding_streams.specs.Utf16Steps.{IsFirstOf};
 
 use encoding_kernels::scalar::{is_low_surrogate, is_surrogate};
@@ -56,6 +56,16 @@ pub(super) fn first_of(order: ByteOrder, bytes: &[u8]) -> First
         return First::Unpaired;
     }
     First::Characters([first, second], 2)
+}
+
+/// Returns whether the bytes are the start of a character that isn't whole, or none.
+#[inline(always)]
+pub(super) fn is_incomplete(order: ByteOrder, bytes: &[u8]) -> bool
+    requires at_most_four { length bytes.now ≤ 4 }
+    ensures yes { result ≡ true → IsPendingUtf16 order bytes.now }
+    ensures no { result ≡ false → IsPendingUtf16 order bytes.now → ⊥ }
+{
+    matches!(first_of(order, bytes), First::Incomplete)
 }
 
 /// Returns whether the bytes have no character that is worth a conversion: they are fewer than four, or start with an unpaired
