@@ -1,10 +1,12 @@
 //! What the next bytes start with.
-ghost use Rattle.std.specs.Prelude.{◌≡◌, ◌<◌, ◌≤◌, ℕ, true, false, length, take, drop, IsTrue};
-ghost use Rattle.encoding_text.specs.Utf16Bytes.{unit_bytes};
+ghost use Rattle.std.specs.Prelude.{◌≡◌, ◌<◌, ◌≤◌, ℕ, true, false, length, take, drop, IsTrue, IfSome};
+ghost use Rattle.std.specs.Char.{IsScalar};
+ghost use Rattle.std.specs.Char.Escape.{encode_utf16};
+ghost use Rattle.encoding_text.specs.Utf16Bytes.{unit_bytes, utf16_bytes};
 ghost use Rattle.encoding_streams.specs.Utf16Parts.{IsMalformedUtf16, IsPendingUtf16};
 ghost use Rattle.encoding_streams.specs.Utf16Steps.{IsFirstOf};
 
-use encoding_kernels::scalar::{is_low_surrogate, is_surrogate};
+use encoding_kernels::scalar::{is_low_surrogate, is_surrogate, pair_scalar};
 use encoding_text::utf_16::ByteOrder;
 
 /// How many bytes show what comes next: those of the longest character.
@@ -82,6 +84,29 @@ pub(super) fn is_for_resume(order: ByteOrder, src: &[u8]) -> bool
         First::Unpaired => true,
         _ => false,
     }
+}
+
+/// Returns the scalar value of the first character and its length in bytes, or `None` if the bytes start with no whole one.
+#[inline(always)]
+pub(super) fn first_scalar(order: ByteOrder, src: &[u8]) -> Option<(u32, usize)>
+    ensures { IfSome result (λ first. IsScalar first.0 × (first.1 ≤ length src.now)
+        × (utf16_bytes order (encode_utf16 first.0) ≡ take first.1 src.now) × (0 < first.1)) }
+{
+    if src.len() < 2 {
+        return None;
+    }
+    let first = unit_of(order, [src[0], src[1]]);
+    if !is_surrogate(first) {
+        return Some((u32::from(first), 2));
+    }
+    if is_low_surrogate(first) || src.len() < WINDOW {
+        return None;
+    }
+    let second = unit_of(order, [src[2], src[3]]);
+    if !is_low_surrogate(second) {
+        return None;
+    }
+    Some((pair_scalar(first, second), WINDOW))
 }
 
 /// Returns whether the first code unit is ASCII.
