@@ -349,7 +349,8 @@ pub high_of : (u : ℕ) → (0xD800 ≤ u) × (u ≤ 0xDFFF) → (IsLowSurrogate
 high_of u s n = (s.0, elim (cases_lt 0xDBFF u) [ inl l ↦ absurd (n (omega arith, s.1)) | inr l ↦ l ])
 
 -- code units that are characters don't begin what is pending
-pub no_units_pending : (order : ByteOrder) (w us : List ℕ) (n : ℕ) → IsValidUtf16 us → 0 < length us → utf16_bytes order us ≡ take n w → IsPendingUtf16 order w → ⊥
+pub no_units_pending : (order : ByteOrder) (w us : List ℕ) (n : ℕ) → IsValidUtf16 us → 0 < length us → utf16_bytes order us ≡ take n w
+    → IsPendingUtf16 order w → ⊥
 no_units_pending order w us n valid some spelled pending =
     let (scalars, e) = scalars_of_valid us valid in
     let none = no_characters_pending order valid.0 (drop n w) w scalars pending

@@ -3,7 +3,7 @@
 ghost use Rattle.std.specs.Prelude.{[], encode_utf8};
 ghost use Rattle.encoding_streams.specs.Utf16Steps.{Advances};
 
-use super::window::{begins_with_ascii, first_scalar, is_for_resume};
+use super::window::{begins_with_ascii, begins_with_surrogate, first_scalar, is_for_resume};
 use encoding_kernels::scalar::write_scalar;
 use encoding_text::utf_16::{
     ByteOrder, convert_utf16_bytes_to_utf8_up_to_invalid, copy_utf16_bytes_to_ascii,
@@ -15,6 +15,12 @@ const NEAR: usize = 8;
 
 /// The most bytes that a character takes.
 const LONGEST: usize = 4;
+
+/// The most characters that are converted one by one.
+const FEW: usize = 32;
+
+/// From how many bytes on blocks with pairs save more than they cost.
+const LONG: usize = 128;
 
 /// Returns whether one of the first nine code units is unpaired, apart from the first if it is a low surrogate.
 #[inline(always)]
@@ -47,7 +53,7 @@ fn convert_one(order: ByteOrder, src: &[u8], dst: &mut [u8]) -> (usize, usize)
     (read, write_scalar(scalar, dst))
 }
 
-/// Converts the first characters one by one, at most `NEAR`. Returns how many bytes it read and how many it wrote.
+/// Converts the first characters one by one, at most `FEW`. Returns how many bytes it read and how many it wrote.
 #[inline(never)]
 fn convert_few(order: ByteOrder, src: &[u8], dst: &mut [u8]) -> (usize, usize)
     ensures { Advances order encode_utf8 [] src.now dst.old dst.new
@@ -55,7 +61,7 @@ fn convert_few(order: ByteOrder, src: &[u8], dst: &mut [u8]) -> (usize, usize)
 {
     let mut read = 0;
     let mut written = 0;
-    let mut left = NEAR;
+    let mut left = FEW;
     while left > 0 {
         let (bytes, more) = convert_one(order, &src[read..], &mut dst[written..]);
         read += bytes;
@@ -68,14 +74,14 @@ fn convert_few(order: ByteOrder, src: &[u8], dst: &mut [u8]) -> (usize, usize)
     (read, written)
 }
 
-/// Converts the first characters: one by one if an unpaired surrogate is near, since a block costs more than the few before it.
-/// Returns how many bytes it read and how many it wrote.
+/// Converts the first characters: one by one if an unpaired surrogate is near, or a pair begins a short text, since blocks cost more
+/// then. Returns how many bytes it read and how many it wrote.
 #[inline(always)]
 fn convert_some(order: ByteOrder, src: &[u8], dst: &mut [u8]) -> (usize, usize)
     ensures { Advances order encode_utf8 [] src.now dst.old dst.new
         result.0 result.1 [] }
 {
-    if has_near_fault(order, src) {
+    if src.len() < LONG && begins_with_surrogate(order, src) || has_near_fault(order, src) {
         return convert_few(order, src, dst);
     }
     convert_utf16_bytes_to_utf8_up_to_invalid(order, src, dst)

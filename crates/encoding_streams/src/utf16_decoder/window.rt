@@ -117,3 +117,9 @@ pub(super) fn begins_with_ascii(order: ByteOrder, src: &[u8]) -> bool
 {
     src.len() >= 2 && unit_of(order, [src[0], src[1]]) < 0x80
 }
+
+/// Returns whether the first code unit is a surrogate.
+#[inline(always)]
+pub(super) fn begins_with_surrogate(order: ByteOrder, src: &[u8]) -> bool {
+    src.len() >= 2 && is_surrogate(unit_of(order, [src[0], src[1]]))
+}

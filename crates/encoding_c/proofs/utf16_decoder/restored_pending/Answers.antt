@@ -1,4 +1,4 @@
-use Rattle.std.proofs.Common.{◌≡◌, ◌≤◌, ◌∙◌, List, ℕ, take, length, arith, subst, sym, ap}
+use Rattle.std.proofs.Common.{◌≡◌, ◌≤◌, ◌∙◌, List, ℕ, take, arith, subst, sym, ap}
 use Rattle.std.proofs.lemmas.List.{length-take, take-take}
 use Rattle.encoding_streams.specs.Utf16Parts.{IsPendingUtf16}
 use Rattle.encoding_c.specs.States.{IsByteOrder}
@@ -15,7 +15,7 @@ returns c =
     let order = c.byte_order-order.result in
     let four = c.padded.result in
     let same = λ (within : c.args.state.count ≤ 3).
-        same_bytes c.from-count.result c.args.state.count c.args.state.pending four c.from-count.ensures within c.padded.ensures.bytes in
+    same_bytes c.from-count.result c.args.state.count c.args.state.pending four c.from-count.ensures within c.padded.ensures.bytes in
     record {
       order = subst (IsByteOrder c.args.state.big_endian) (sym d.order) c.byte_order-order.ensures;
       left = λ valid.
@@ -30,5 +30,6 @@ returns c =
             c.padded.ensures.count,
             c.from-count.ensures,
           ) in
-          invalid (within, subst (λ o. IsPendingUtf16 o (take c.args.state.count c.args.state.pending)) (sym d.order) (subst (IsPendingUtf16 order) (same within) pending)));
+          let left = subst (IsPendingUtf16 order) (same within) pending in
+          invalid (within, subst (λ o. IsPendingUtf16 o (take c.args.state.count c.args.state.pending)) (sym d.order) left));
     }

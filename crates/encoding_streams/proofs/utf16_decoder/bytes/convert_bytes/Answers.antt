@@ -1,4 +1,4 @@
-use Rattle.std.proofs.Common.{◌≡◌, [], encode_utf8, arith}
+use Rattle.std.proofs.Common.{[], encode_utf8}
 use Rattle.encoding_streams.proofs.Utf16StepLemmas.{advance_then, ascii_advance}
 use Rattle.encoding_streams.proofs.utf16_decoder.bytes.convert_bytes.Goals as goal
 

@@ -1,4 +1,3 @@
-use Rattle.std.proofs.Common.{subst, ap}
 use Rattle.encoding_streams.proofs.Utf16StepLemmas.{character_advance}
 use Rattle.encoding_streams.proofs.utf16_decoder.bytes.convert_one.Goals as goal
 
