@@ -9,7 +9,7 @@ ghost use Rattle.encoding_streams.specs.Utf16Parts.{IsPendingUtf16};
 ghost use Rattle.encoding_streams.specs.Utf16Decoding.{DecodeUtf16StepInto, SufficesReplacingUtf16, Utf16State, max_utf16_length_from_utf16, max_utf8_length_from_utf16};
 ghost use Rattle.encoding_c.specs.States.{IsByteOrder, IsUtf16CodeOf, RepresentsUtf16, Utf16Call};
 
-use crate::decoder::{Ended, MAX_PENDING, numbers};
+use crate::decoder::{Ended, numbers};
 use encoding_streams::utf16_decoder::Utf16Decoder;
 use encoding_text::decoder::DecoderResult;
 use encoding_text::utf_16::ByteOrder;
@@ -48,30 +48,24 @@ fn byte_order(big_endian: u8) -> ByteOrder
     }
 }
 
-/// Returns whether all of the source was read.
-fn is_all_read(ended: &DecoderResult) -> bool
-    ensures { IsTrue result ↔ (ended.now ≡ DecoderResult.InputEmpty) }
+/// Returns four bytes that start with these.
+#[inline(always)]
+fn padded(pending: [u8; 3]) -> [u8; 4]
+    ensures bytes { take 3 result ≡ pending }
+    ensures count { length result ≡ 4 }
 {
-    matches!(ended, DecoderResult::InputEmpty)
+    let [first, second, third] = pending;
+    [first, second, third, 0]
 }
 
 /// Returns the decoder that the storage represents, if its count isn't 0.
 #[inline(never)]
-#[tactic(auto, using(crate::proofs::Utf16StateLemmas::pending_again))]
 fn restored_pending(state: EncodingUtf16Decoder) -> Utf16Decoder
     ensures { RepresentsUtf16 state result }
 {
     let order = byte_order(state.big_endian);
-    let mut decoder = Utf16Decoder::new(order);
-    if state.count > MAX_PENDING {
-        return decoder;
-    }
     let count = usize::from(state.count);
-    let (ended, _, _) = decoder.decode_to_utf16_raw(&state.pending[..count], &mut [], false);
-    if is_all_read(&ended) {
-        return decoder;
-    }
-    Utf16Decoder::new(order)
+    Utf16Decoder::from_pending(order, padded(state.pending), count)
 }
 
 /// Returns the decoder that the storage represents. In most calls nothing is pending, and then no call is needed.

@@ -1,6 +1,7 @@
 -- Steps of a call of the UTF-16 decoder: how one continues another, what a block of code units is, and what the first
 -- bytes after the pending ones are.
 use Rattle.std.proofs.Common.{◌≡◌, ◌≢◌, ℕ, zero, suc, ◌+◌, ◌-◌, ◌*◌, ◌<◌, ◌≤◌, inl, inr, Bool, true, List, [], ◌∷◌, ◌++◌, length, take, drop, refl, sym, ap, ◌∙◌, arith, subst, append_assoc, take-add, encode_utf8}
+use Rattle.std.specs.Char.{IsScalar}
 use Rattle.std.specs.Char.Escape.{encode_utf16}
 use Rattle.std.specs.List.{flat_map}
 use Rattle.std.specs.Str.{IsAscii, all_scalars}
@@ -290,4 +291,16 @@ ascii_advance order src {old} {new} {count} within (units, spelled, ascii, write
       same.0,
       ap (utf16_bytes order) same.1 ∙ spelled,
       subst (λ xs. WritesPrefix old new count xs) (sym (flat_map-encode_utf8 units ∙ encodes-IsAscii units ascii)) writes,
+    )
+
+-- one character is read and written
+pub character_advance : (order : ByteOrder) (src : List ℕ) {old new : List ℕ} {read written : ℕ} (c : ℕ) → IsScalar c → read ≤ length src
+    → utf16_bytes order (encode_utf16 c) ≡ take read src → WritesPrefix old new written (encode_utf8 c)
+    → Advances order encode_utf8 [] src old new read written []
+character_advance order src {old} {new} {read} {written} c s within spelled writes =
+    scalars_advance order src within (
+      c ∷ [],
+      and_from _ _ s refl,
+      ap (utf16_bytes order) (append-nil (encode_utf16 c)) ∙ spelled,
+      subst (WritesPrefix old new written) (sym (append-nil (encode_utf8 c))) writes,
     )

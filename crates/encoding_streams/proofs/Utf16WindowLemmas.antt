@@ -16,10 +16,12 @@ use Rattle.encoding_text.specs.declared.utf_16.ByteOrder.{ByteOrder}
 use Rattle.encoding_text.specs.declared.decoder.DecoderResult.TheVariants.{InputEmpty, OutputFull, Malformed}
 use Rattle.encoding_text.proofs.PrefixesLemmas.{WritesPrefix-nil}
 use Rattle.std.proofs.str.Utf16.{IsPair}
-use Rattle.encoding_text.proofs.SurrogateLemmas.{valid-encode, valid_more_one, valid_more_two}
+use Rattle.encoding_text.proofs.SurrogateLemmas.{scalars_of_valid, valid-encode, valid_more_one, valid_more_two}
 use Rattle.encoding_streams.specs.Utf16Parts.{IsPendingUtf16, IsMalformedUtf16, IsFirstPartUtf16}
 use Rattle.encoding_streams.specs.Utf16Decoding.{NeedsMore, DecodeUtf16StepInto}
-use Rattle.encoding_streams.specs.Utf16Steps.{Advances, WritesUnits, BeginsUnpaired}
+use Rattle.encoding_streams.specs.Utf16Steps.{Advances, WritesUnits, BeginsUnpaired, IsFirstOf}
+use Rattle.encoding_streams.specs.declared.utf16_decoder.window.First.{First}
+use Rattle.encoding_streams.specs.declared.utf16_decoder.window.First.TheVariants.{Characters, Unpaired, Incomplete}
 use Rattle.encoding_streams.proofs.Utf16ByteLemmas.{length-unit_bytes, same_unit, length-utf16_bytes, no_character_pending, no_characters_pending, length-pending, pending_nil}
 use Rattle.encoding_streams.proofs.Utf16StepLemmas.{scalars_split, within_units, done_bytes, block_advances, too_long}
 
@@ -345,6 +347,28 @@ two_valid u v p = valid_more_two (u ∷ v ∷ []) 0 (omega arith) (valid-encode 
 -- a surrogate that is no low one
 pub high_of : (u : ℕ) → (0xD800 ≤ u) × (u ≤ 0xDFFF) → (IsLowSurrogate u → ⊥) → IsHighSurrogate u
 high_of u s n = (s.0, elim (cases_lt 0xDBFF u) [ inl l ↦ absurd (n (omega arith, s.1)) | inr l ↦ l ])
+
+-- code units that are characters don't begin what is pending
+pub no_units_pending : (order : ByteOrder) (w us : List ℕ) (n : ℕ) → IsValidUtf16 us → 0 < length us → utf16_bytes order us ≡ take n w
+    → IsPendingUtf16 order w → ⊥
+no_units_pending order w us n valid some spelled pending =
+    let (scalars, e) = scalars_of_valid us valid in
+    let none = no_characters_pending order valid.0 (drop n w) w scalars pending
+    (sym (take-append-drop n w) ∙ ap (λ xs. xs ++ drop n w) (sym spelled ∙ ap (utf16_bytes order) (sym e))) in
+    omega (arith, some, ap length (sym e ∙ ap (flat_map encode_utf16) none))
+
+-- nor does an unpaired surrogate
+pub no_surrogate_pending : (order : ByteOrder) (w : List ℕ) → ((more : List ℕ) (last : Bool) → IsMalformedUtf16 order (take 2 w) (drop 2 w ++ more) last)
+    → IsPendingUtf16 order w → ⊥
+no_surrogate_pending order w unpaired pending =
+    not_unpaired order w pending (take 2 w) (drop 2 w) (sym (take-append-drop 2 w))
+    (subst (λ xs. IsMalformedUtf16 order (take 2 w) xs false) (append-nil (drop 2 w)) (unpaired [] false))
+
+pub not_incomplete : (order : ByteOrder) (w : List ℕ) (first : First) → IsFirstOf order w first → (first ≢ Incomplete) → IsPendingUtf16 order w → ⊥
+not_incomplete order w (Characters units count) (some, within, short, valid, spelled) other pending =
+    no_units_pending order w (take count units) (2 * count) valid (omega (arith, some, length-take-le count units within)) spelled pending
+not_incomplete order w Unpaired (two, unpaired) other pending = no_surrogate_pending order w unpaired pending
+not_incomplete order w Incomplete is other pending = other refl
 
 -- what four bytes start with, and so those that they start
 pub unpaired_start : (order : ByteOrder) (src w : List ℕ) → w ≡ take 4 src → 2 ≤ length w

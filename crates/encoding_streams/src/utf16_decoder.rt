@@ -21,7 +21,7 @@ use encoding_text::decoder::DecoderResult;
 use encoding_text::utf_16::ByteOrder;
 use pending::Pending;
 use std::marker::Model;
-use window::{First, first_of, is_for_resume};
+use window::{First, WINDOW, first_of, is_for_resume, is_incomplete};
 
 /// A streaming decoder of UTF-16LE or UTF-16BE, whose input may be split at any byte. Its pending bytes, which it keeps
 /// between calls, are none or the start of a character: a high surrogate, the first byte of a code unit, or both. In
@@ -51,6 +51,24 @@ impl Utf16Decoder {
         Utf16Decoder {
             order,
             pending: Pending::none(),
+        }
+    }
+
+    /// Returns a decoder that has the first `count` of these bytes pending, as `pending` returns them. If no decoder has
+    /// these, nothing is pending of the one that it returns.
+    #[inline(always)]
+    pub fn from_pending(order: ByteOrder, bytes: [u8; 4], count: usize) -> Utf16Decoder
+        ensures order { result.order ≡ order }
+        ensures held { IsPendingUtf16 order (take count bytes)
+            → result.pending ≡ take count bytes }
+        ensures other { (IsPendingUtf16 order (take count bytes) → ⊥) → result.pending ≡ [] }
+    {
+        if count >= WINDOW || !is_incomplete(order, &bytes[..count]) {
+            return Utf16Decoder::new(order);
+        }
+        Utf16Decoder {
+            order,
+            pending: Pending::of(bytes, count),
         }
     }
 

@@ -1,10 +1,12 @@
 //! What the next bytes start with.
-ghost use Rattle.std.specs.Prelude.{◌≡◌, ◌<◌, ◌≤◌, ℕ, false, length, take, drop, IsTrue};
-ghost use Rattle.encoding_text.specs.Utf16Bytes.{unit_bytes};
-ghost use Rattle.encoding_streams.specs.Utf16Parts.{IsMalformedUtf16};
+ghost use Rattle.std.specs.Prelude.{◌≡◌, ◌<◌, ◌≤◌, ℕ, true, false, length, take, drop, IsTrue, IfSome};
+ghost use Rattle.std.specs.Char.{IsScalar};
+ghost use Rattle.std.specs.Char.Escape.{encode_utf16};
+ghost use Rattle.encoding_text.specs.Utf16Bytes.{unit_bytes, utf16_bytes};
+ghost use Rattle.encoding_streams.specs.Utf16Parts.{IsMalformedUtf16, IsPendingUtf16};
 ghost use Rattle.encoding_streams.specs.Utf16Steps.{IsFirstOf};
 
-use encoding_kernels::scalar::{is_low_surrogate, is_surrogate};
+use encoding_kernels::scalar::{is_low_surrogate, is_surrogate, pair_scalar};
 use encoding_text::utf_16::ByteOrder;
 
 /// How many bytes show what comes next: those of the longest character.
@@ -58,6 +60,16 @@ pub(super) fn first_of(order: ByteOrder, bytes: &[u8]) -> First
     First::Characters([first, second], 2)
 }
 
+/// Returns whether the bytes are the start of a character that isn't whole, or none.
+#[inline(always)]
+pub(super) fn is_incomplete(order: ByteOrder, bytes: &[u8]) -> bool
+    requires at_most_four { length bytes.now ≤ 4 }
+    ensures yes { result ≡ true → IsPendingUtf16 order bytes.now }
+    ensures no { result ≡ false → IsPendingUtf16 order bytes.now → ⊥ }
+{
+    matches!(first_of(order, bytes), First::Incomplete)
+}
+
 /// Returns whether the bytes have no character that is worth a conversion: they are fewer than four, or start with an unpaired
 /// surrogate.
 #[inline(always)]
@@ -74,6 +86,29 @@ pub(super) fn is_for_resume(order: ByteOrder, src: &[u8]) -> bool
     }
 }
 
+/// Returns the scalar value of the first character and its length in bytes, or `None` if the bytes start with no whole one.
+#[inline(always)]
+pub(super) fn first_scalar(order: ByteOrder, src: &[u8]) -> Option<(u32, usize)>
+    ensures { IfSome result (λ first. IsScalar first.0 × (first.1 ≤ length src.now)
+        × (utf16_bytes order (encode_utf16 first.0) ≡ take first.1 src.now) × (0 < first.1)) }
+{
+    if src.len() < 2 {
+        return None;
+    }
+    let first = unit_of(order, [src[0], src[1]]);
+    if !is_surrogate(first) {
+        return Some((u32::from(first), 2));
+    }
+    if is_low_surrogate(first) || src.len() < WINDOW {
+        return None;
+    }
+    let second = unit_of(order, [src[2], src[3]]);
+    if !is_low_surrogate(second) {
+        return None;
+    }
+    Some((pair_scalar(first, second), WINDOW))
+}
+
 /// Returns whether the first code unit is ASCII.
 #[inline(always)]
 pub(super) fn begins_with_ascii(order: ByteOrder, src: &[u8]) -> bool
@@ -81,4 +116,10 @@ pub(super) fn begins_with_ascii(order: ByteOrder, src: &[u8]) -> bool
         → (unit : ℕ) × (unit < 0x80) × (unit_bytes order unit ≡ take 2 src.now) }
 {
     src.len() >= 2 && unit_of(order, [src[0], src[1]]) < 0x80
+}
+
+/// Returns whether the first code unit is a surrogate.
+#[inline(always)]
+pub(super) fn begins_with_surrogate(order: ByteOrder, src: &[u8]) -> bool {
+    src.len() >= 2 && is_surrogate(unit_of(order, [src[0], src[1]]))
 }

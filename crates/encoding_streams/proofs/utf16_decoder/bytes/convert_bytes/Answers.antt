@@ -1,5 +1,5 @@
-use Rattle.std.proofs.Common.{◌≡◌, [], encode_utf8, arith}
-use Rattle.encoding_streams.proofs.Utf16StepLemmas.{advance_then, ascii_advance, scalars_advance}
+use Rattle.std.proofs.Common.{[], encode_utf8}
+use Rattle.encoding_streams.proofs.Utf16StepLemmas.{advance_then, ascii_advance}
 use Rattle.encoding_streams.proofs.utf16_decoder.bytes.convert_bytes.Goals as goal
 
 pub returns-then-is_for_resume : goal.returns-then-is_for_resume
@@ -7,15 +7,10 @@ returns-then-is_for_resume c =
     let copied = c.copy_utf16_bytes_to_ascii-ascii.ensures in
     ascii_advance c.args.order c.args.src.now copied.read copied.copied
 
-pub returns-then-not-begins_with_ascii : goal.returns-then-not-begins_with_ascii
-returns-then-not-begins_with_ascii c =
-    let call = c.convert_utf16_bytes_to_utf8_up_to_invalid.ensures in
-    scalars_advance c.args.order c.args.src.now call.read call.converted
-
 pub returns : goal.returns
 returns c =
     let order = c.args.order in
     let copied = c.copy_utf16_bytes_to_ascii-ascii.ensures in
-    let call = c.convert_utf16_bytes_to_utf8_up_to_invalid-more.ensures in
+    let call = c.convert_some-more.ensures in
     let first = ascii_advance order c.args.src.now copied.read copied.copied in
-    advance_then order encode_utf8 [] [] [] c.args.src.now _ _ _ _ _ _ _ first (scalars_advance order _ call.read call.converted)
+    advance_then order encode_utf8 [] [] [] c.args.src.now _ _ _ _ _ _ _ first call
