@@ -2,7 +2,7 @@
 
 use crate::kinds::{source, Kind, Source, KINDS};
 use crate::measure::room;
-use crate::rows;
+use crate::rows::{self, others};
 use crate::utf16_streams;
 use crate::worst;
 use std::arch::asm;
@@ -31,18 +31,22 @@ fn request(what: Request, argument: usize) {
     }
 }
 
+/// Of these sizes only two kinds of text are counted.
+const FEW_SIZES: std::ops::Range<usize> = 65..1_000;
+
 /// Returns what is counted: a text, or several that together have about 4 KiB.
-fn texts(kind: Kind, size: usize) -> Vec<Source> {
+fn texts_of(kind: Kind, size: usize) -> Vec<Source> {
     let count = ((4 << 10) / size).clamp(1, 64) as u64;
     (0..count).map(|which| source(kind, size, which)).collect()
 }
 
 /// Runs each engine of the rows that are named, or of all, once on each text of each kind, between requests.
 pub fn count(size: usize, names: &[&str]) {
-    let texts = KINDS.map(|kind| texts(kind, size));
+    let kinds = if FEW_SIZES.contains(&size) { &others::TEXTS[..] } else { &KINDS[..] };
+    let texts: Vec<Vec<Source>> = kinds.iter().map(|kind| texts_of(*kind, size)).collect();
     request(Request::StartInstrumentation, 0);
     for row in rows::all().filter(|row| names.is_empty() || names.contains(&row.name)) {
-        for (kind, sources) in KINDS.iter().zip(&texts) {
+        for (kind, sources) in kinds.iter().zip(&texts) {
             if sources.iter().all(|source| row.is_measured(source)) {
                 let length: usize = sources.iter().map(|source| row.length(source)).sum();
                 for engine in row.engines.iter().filter(|engine| !rows::is_own(engine)) {
@@ -58,6 +62,13 @@ pub fn count(size: usize, names: &[&str]) {
             dump(format!("{row}|{text}|{engine}|{length}"), run);
         }
     });
+    for kind in others::TEXTS {
+        others::each(kind, &texts_of(kind, size), |row, length, run| {
+            if names.is_empty() || names.contains(&row) {
+                dump(format!("{row}|{}|ours|{length}", kind.name()), run);
+            }
+        });
+    }
     request(Request::StopInstrumentation, 0);
 }
 

@@ -10,7 +10,8 @@
 //! - `simdutf` measures only ours, simdutf's kernel of the same width, and simdutf's own choice, if simdutf has the
 //!   call, and prints their throughputs.
 //! - `count SIZE [ROW..]` runs each engine once on a text of about SIZE bytes. Under callgrind, each run is a dump. It also has
-//!   streams of UTF-16, plain and damaged (module `utf16_streams`).
+//!   streams of UTF-16, plain and damaged (module `utf16_streams`), and the functions without a peer (module `rows::others`).
+//!   Of sizes from 65 to 999 it takes two kinds of text.
 //! - `worst SIZE [ROW..]` runs ours once on plain text and on each of 200 patterns of SIZE bytes, each a dump under callgrind.
 //! - `calls` compares the Rust crate with C on each row that is one call, and prints what one costs on sixteen letters
 //!   in both; the status is 1 if Rust takes 2 ns more. It needs no simdutf, so the program has it too.

@@ -13,6 +13,7 @@ use std::str;
 mod checks;
 mod conversions;
 mod lengths;
+pub mod others;
 mod prefixes;
 mod streams;
 

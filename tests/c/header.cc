@@ -627,6 +627,7 @@ static void failing_memory()
     CHECK(failures([&] { encoding_text::convert_utf8_to_utf16(bad); }, always) == 1);
     CHECK(failures([&] { encoding_text::convert_utf8_to_utf16_without_replacement(long_text); }, always) == 1);
     CHECK(failures([&] { encoding_text::convert_utf16_to_utf8(long_utf16); }, always) == 1);
+    CHECK(failures([&] { encoding_text::convert_utf16_to_utf8_with_count(long_utf16); }, always) == 1);
     CHECK(failures([&] { encoding_text::convert_latin1_to_utf8(bad); }, always) == 1);
     CHECK(failures([&] { encoding_text::convert_latin1_to_utf16(bad); }, always) == 1);
     CHECK(failures([&] { encoding_text::convert_utf8_to_latin1(long_text); }, always) == 1);
@@ -684,6 +685,7 @@ int main()
     decoder();
     utf16_decoders();
     marked_decoders();
+    long_calls();
     failing_memory();
     return finish();
 }

@@ -129,6 +129,7 @@ static void conversions(void)
     CHECK(are_invalid(encoding_text_mem_convert_utf8_to_utf16_without_replacement(ascii(), LONG, to_units, SHORT)));
     CHECK(counts_are(encoding_text_mem_convert_utf8_to_utf16_without_replacement(ascii(), SHORT, to_units, LONG), SHORT, SHORT));
     FILLS(encoding_text_mem_convert_latin1_to_utf8_partial, ascii, to_bytes);
+    FILLS(encoding_text_mem_convert_utf8_to_utf16_partial, ascii, to_units);
     FILLS(encoding_text_mem_convert_utf16_to_utf8_partial, ascii_units, to_bytes);
     FILLS(encoding_text_mem_convert_utf16_to_str_partial, ascii_units, to_bytes);
     FILLS(encoding_text_mem_convert_latin1_to_str_partial, ascii, to_bytes);
@@ -145,6 +146,47 @@ static void conversions(void)
     CHECK(counts_are(encoding_text_encode_utf16le(ascii_units(), SHORT, to_bytes, LONG), SHORT, 2 * SHORT));
     CHECK(counts_are(encoding_text_encode_utf16be(ascii_units(), LONG, to_bytes, 2 * SHORT), SHORT, 2 * SHORT));
     CHECK(counts_are(encoding_text_encode_utf16be(ascii_units(), SHORT, to_bytes, LONG), SHORT, 2 * SHORT));
+}
+
+static bool counted_is(encoding_text_counted_progress counted, size_t read, size_t written, size_t replaced)
+{
+    return counted.read == read && counted.written == written && counted.replaced == replaced;
+}
+
+/* The calls that count what they replace, of code units whose eleventh is an unpaired surrogate. */
+static void counted_calls(void)
+{
+    encoding_text_utf8_encoder encoder = encoder_with(0);
+    const uint16_t *src = stops_at_unit(0xDC00);
+    CHECK(counted_is(encoding_text_mem_convert_utf16_to_utf8_partial_with_count(src, LONG, to_bytes, STOP + 3), STOP + 1, STOP + 3, 1));
+    CHECK(counted_is(encoding_text_mem_convert_utf16_to_utf8_partial_with_count(src, SHORT, to_bytes, LONG), SHORT, SHORT + 2, 1));
+    CHECK(counted_is(encoding_text_mem_convert_utf16_to_str_partial_with_count(src, LONG, to_bytes, STOP + 3), STOP + 1, STOP + 3, 1));
+    CHECK(counted_is(encoding_text_mem_convert_utf16_to_str_partial_with_count(src, SHORT, to_bytes, LONG), SHORT, SHORT + 2, 1));
+    CHECK(coded_is(encoding_text_utf8_encoder_encode_from_utf16_with_count(&encoder, src, LONG, to_bytes, STOP + 3, true), STOP + 1,
+                   STOP + 3, 1, ENCODING_TEXT_OUTPUT_FULL));
+    CHECK(coded_is(encoding_text_utf8_encoder_encode_from_utf16_with_count(&encoder, src, SHORT, to_bytes, LONG, true), SHORT,
+                   SHORT + 2, 1, ENCODING_TEXT_INPUT_EMPTY));
+    CHECK(coded_is(encoding_text_utf8_encoder_encode_from_utf8_with_count(&encoder, ascii(), LONG, to_bytes, SHORT, true), SHORT, SHORT,
+                   0, ENCODING_TEXT_OUTPUT_FULL));
+    CHECK(coded_is(encoding_text_utf8_encoder_encode_from_utf8_with_count(&encoder, ascii(), SHORT, to_bytes, LONG, true), SHORT, SHORT,
+                   0, ENCODING_TEXT_INPUT_EMPTY));
+}
+
+/* A search of a stream from 2^32 on, whose array is full at the first of two malformed bytes, and a bounded repair. */
+static void searches_and_repairs(void)
+{
+    encoding_text_malformed_search search;
+    encoding_text_stream_malformation found[2];
+    encoding_text_search_block_result done;
+    encoding_text_malformed_search_new(&search, FOUR_GIB);
+    done = encoding_text_search_block(&search, stops_at("\xFF\xFF"), LONG, found, 1, true);
+    CHECK(done.found == 1 && !done.finished && found[0].offset == FOUR_GIB + STOP && found[0].length == 1);
+    encoding_text_malformed_search_new(&search, FOUR_GIB);
+    done = encoding_text_search_block(&search, stops_at("\xFF"), LONG, found, 2, true);
+    CHECK(done.found == 1 && done.finished && done.read == LONG && found[0].offset == FOUR_GIB + STOP);
+    CHECK(block_is(encoding_text_repair_slice_partial(ascii(), LONG, to_bytes, SHORT), SHORT, SHORT, 0, false));
+    CHECK(block_is(encoding_text_repair_slice_partial(ascii(), SHORT, to_bytes, LONG), SHORT, SHORT, 0, true));
+    CHECK(block_is(encoding_text_repair_slice_partial(stops_at("\xFF"), LONG, to_bytes, STOP + 3), STOP + 1, STOP + 3, 1, false));
 }
 
 static void streams(void)
@@ -279,6 +321,9 @@ static void results(void)
     CHECK(encoding_text_mem_utf8_length_from_latin1(bytes, LONG) == LONG);
     CHECK(encoding_text_mem_latin1_length_from_utf8(bytes, LONG) == LONG);
     CHECK(encoding_text_utf8_valid_up_to(bytes, LONG) == LONG);
+    CHECK(encoding_text_mem_latin1_length_from_utf8_unchecked(bytes, LONG) == LONG);
+    CHECK(encoding_text_mem_utf16_length_from_utf8_unchecked(bytes, LONG) == LONG);
+    CHECK(encoding_text_utf8_count_unchecked(bytes, LONG) == LONG);
     CHECK(encoding_text_utf8_count(bytes, LONG) == LONG);
     CHECK(encoding_text_mem_latin1_length_from_utf8_unchecked(bytes, LONG) == LONG);
     CHECK(encoding_text_mem_utf16_length_from_utf8_unchecked(bytes, LONG) == LONG);
@@ -301,6 +346,8 @@ int main(void)
     ascii_prefixes();
     checks_of_buffers();
     conversions();
+    counted_calls();
+    searches_and_repairs();
     streams();
     utf16_streams();
     marked_streams();

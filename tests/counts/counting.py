@@ -1,7 +1,7 @@
-"""Counts the instructions of the workloads and of the rows of `bench/instructions` by callgrind.
+"""Counts the instructions of the workloads, of the rows of `bench/instructions` and of the programs by callgrind.
 
-Only what the library and the workloads execute is counted: a row from the entry of its function for C to its return, a
-workload without the making of its texts. The C library selects its functions by the processor, so each call of one of
+Only what the library, the workloads and the programs execute is counted: a row from the entry of its function for C to its
+return, a workload without the making of its texts, a program from its start to its end. The C library selects its functions by the processor, so each call of one of
 these counts as much on any machine. Programs run without an environment, by a relative path in a folder of their own.
 """
 import os
@@ -18,24 +18,33 @@ TABLE = ROOT / 'tests' / 'counts' / 'table.tsv'
 CPUS = 'x86-64-v2', 'x86-64-v3'
 # What stands for the kind of text in the rows of workloads.
 WORKLOAD = 'workload'
+# What stands for a count that there isn't, since the programs have one build.
+NONE = '-'
 # What a call of another library counts as: about the instructions of a short copy.
 CALL = 20
 # How many rounds of each workload are counted: each takes a few seconds.
 ROUNDS = {'decode': 28, 'encode': 56, 'check': 20, 'repair': 32, 'short': 160, 'legacy': 160, 'everyday': 3}
 # About how long the texts of a row are, in bytes: those of up to 4 KiB are several, with 4 KiB together.
-SIZES = '64', '1024', '65536'
+SIZES = '64', '150', '600', '1024', '65536'
+# The programs, which `make` builds for one kind of processors, and what each is run with.
+PROGRAMS = {'utf8_check': ('', '--count', '--quiet', '--column=byte'), 'utf8_repair': ('',)}
+PROGRAMS_CPU = CPUS[0]
+PROGRAM_SIZE = 200_000
+HEADER = ROOT / 'c' / 'include' / 'encoding_text.h'
+# The functions of the library that some row calls.
+called = set()
 JOBS = 2
 
 sys.path.insert(0, str(ROOT / 'bench'))
 from workloads import built
 
 
-def callgrind(folder, program, words, *options):
-    """Runs the program of a folder under callgrind, and returns the files that it left."""
+def callgrind(folder, program, words, *options, source=subprocess.DEVNULL, most=0):
+    """Runs the program of a folder under callgrind, which ends with a status up to `most`. Returns the files that it left."""
     command = [shutil.which('valgrind'), '-q', '--tool=callgrind', '--compress-strings=no', '--compress-pos=no',
                f'--callgrind-out-file={folder}/out', *options, f'./{program}', *words]
-    ran = subprocess.run(command, cwd=folder, env={}, stdin=subprocess.DEVNULL, capture_output=True, text=True)
-    if ran.returncode != 0:
+    ran = subprocess.run(command, cwd=folder, env={}, stdin=source, capture_output=True, text=True, errors='replace')
+    if not 0 <= ran.returncode <= most:
         raise OSError(f'{" ".join(command)}: status {ran.returncode}: {ran.stderr[-500:]}')
     dumps = [path for path in pathlib.Path(folder).glob('out*') if path.stat().st_size]
     return sorted(dumps, key=lambda path: int(path.suffix[1:] or 0))
@@ -82,7 +91,36 @@ def count_rows(cpu, size):
             if label:
                 row, kind, _, _ = label[1].split('|')
                 counts[row, f'{kind}, {size} bytes'] = instructions(dump, 'bench')
+                called.update(re.findall(r'^fn=(encoding_text_\w+)$', dump, re.M))
     return counts
+
+
+def texts_of_programs():
+    """Returns the bytes that the programs read: lines of ASCII, of other characters, and with malformed sequences."""
+    lines = {'ASCII': b'It was the best of times, it was the worst of times\n', 'CJK': '\u4f60\u597d, \u4e16\u754c\n'.encode() * 3,
+             'damaged': b'na\xc3\xafve \xe2\x98 text, and then some more of it \xff\n'}
+    return {name: (line * PROGRAM_SIZE)[:PROGRAM_SIZE // len(line) * len(line)] for name, line in lines.items()}
+
+
+def count_program(cpu, name):
+    """Returns the counts of a program, with each of its options and on each text."""
+    counts = {}
+    for option in PROGRAMS[name]:
+        for kind, text in texts_of_programs().items():
+            with tempfile.TemporaryDirectory() as folder:
+                shutil.copy(ROOT / 'build' / cpu / name, folder)
+                path = pathlib.Path(folder, 'text')
+                path.write_bytes(text)
+                with path.open('rb') as source:
+                    dump, = callgrind(folder, name, option.split(), source=source, most=1)
+                counts[f'{name} {option}'.strip(), f'{kind}, {len(text)} bytes'] = instructions(dump.read_text(errors='replace'), name)
+    return counts
+
+
+def uncalled():
+    """Returns the functions of the header that no row calls."""
+    text = re.sub(r'/\*.*?\*/', '', HEADER.read_text(), flags=re.S)
+    return sorted(set(re.findall(r'\b(encoding_text_\w+)\(', text)) - called)
 
 
 def compile_rows(cpu, folder):
@@ -99,6 +137,7 @@ def tasks(cpus):
     """Yields what is counted, the longest first, each with its processors and its name."""
     if shutil.which('rustc'):
         yield from ((count_rows, [cpu, size]) for size in reversed(SIZES) for cpu in cpus)
+    yield from ((count_program, [PROGRAMS_CPU, name]) for name in PROGRAMS)
     yield from ((count_workload, [cpu, name]) for name in ROUNDS for cpu in cpus)
 
 
@@ -130,15 +169,15 @@ def stored():
     counts = {}
     for line in lines:
         row, text, *numbers = line.split('\t')
-        counts |= {(row, text, cpu): int(number) for cpu, number in zip(cpus, numbers, strict=True)}
+        counts |= {(row, text, cpu): int(number) for cpu, number in zip(cpus, numbers, strict=True) if number != NONE}
     return commit[1], counts
 
 
 def store(commit, counts):
-    """Writes the table: a line for each row and text, with a count for each build."""
+    """Writes the table: a line for each row and text, with a count for each build, or `-` where there is no such build."""
     keys = dict.fromkeys(key[:2] for key in counts)
     lines = [f'# commit {commit}', '\t'.join(('row', 'text', *CPUS))]
-    lines += ['\t'.join((*key, *(str(counts[*key, cpu]) for cpu in CPUS))) for key in keys]
+    lines += ['\t'.join((*key, *(str(counts.get((*key, cpu), NONE)) for cpu in CPUS))) for key in keys]
     new = TABLE.with_suffix('.new')
     new.write_text('\n'.join(lines) + '\n')
     new.replace(TABLE)

@@ -10,6 +10,8 @@ import unittest
 
 from encoding_text import codec
 
+import texts
+
 MARKS = (b'', b'\xef\xbb\xbf', b'\xff\xfe', b'\xfe\xff')
 OWN = ('utf-8', 'utf-16-le', 'utf-16-be')
 NAMES = [f'encoding_text_{name}'.replace('-', '_') for name in OWN]
@@ -80,6 +82,10 @@ class Streams(unittest.TestCase):
             data = mark + text.encode(own)
             self.assertEqual(data.decode(name), text)
             self.assertEqual(decoded(name, [data[:100001], data[100001:]], 'strict'), text)
+
+    def test_long_utf_8(self):
+        for data in texts.long():
+            self.assertEqual(codec.IncrementalDecoder('replace').decode(data, True), wanted(data, 'utf-8'), len(data))
 
 
 class Errors(unittest.TestCase):

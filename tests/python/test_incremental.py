@@ -61,6 +61,11 @@ class Incremental(unittest.TestCase):
         for data in texts.long():
             self.check(data, pieces(data, generator, 300000))
 
+    def test_long_report(self):
+        for data in texts.long():
+            found = encoding_text.IncrementalRepair().report(data, True)
+            self.assertEqual(found, (texts.text(data).encode(), texts.sequences(data)), len(data))
+
     def test_places(self):
         generator = random.Random(6)
         for data in texts.some(5):

@@ -1,4 +1,6 @@
-"""Each call, 10,000 times: the memory of the process stays as it is. CALLS in the environment is another number."""
+"""Each call, 10,000 times: the memory of the process stays as it is. CALLS in the environment is another number. And each
+call while one of its allocations fails."""
+import ast
 import codecs
 import copy
 import gc
@@ -18,6 +20,7 @@ except ImportError:  # not a part of each CPython
     _testcapi = None
 
 CALLS = int(os.environ.get('CALLS', 10_000))
+PLACES = 30  # more than a call has allocations before it gets to its own
 PAGE = os.sysconf('SC_PAGE_SIZE')
 MOST_BLOCKS = 200  # of Python's small objects: caches may grow, and one that leaks with each call is CALLS of them
 MOST_BYTES = 4 << 20  # a buffer, a text or a list that leaks with each call is more than ten times as much
@@ -25,6 +28,8 @@ SOUND = 'na\xefve \u4f60\u597d '.encode() * 300
 DAMAGED = (b'sound ' * 80 + b'\xff\xe2\x98Z\xed\xa0\x80') * 9  # more than a result that needs no memory of its own
 LONE = 'na\xefve \ud800' * 600
 NAME = 'encoding_text_utf_8'
+# What CPython 3.11 says if it has no memory for a frame.
+NO_FRAME = '^error return without exception set$|returned NULL without setting an exception$'
 
 
 def question(error):
@@ -140,6 +145,21 @@ def names_of(kind, prefix):
     return {f'{prefix}.{name}' for name in vars(kind) if not name.startswith('_')}
 
 
+def stubs():
+    """Yields the names of the functions, classes and methods of the stubs."""
+    for module in (encoding_text, codec):
+        path = os.path.splitext(module.__file__)[0] + '.pyi'
+        prefix = module.__name__.replace('encoding_text', '', 1).lstrip('.')
+        with open(path, encoding='utf-8') as file:
+            for node in ast.parse(file.read()).body:
+                inner = node.body if isinstance(node, ast.ClassDef) else ()
+                if isinstance(node, (ast.ClassDef, ast.FunctionDef)):
+                    yield '.'.join(filter(None, (prefix, node.name)))
+                for method in inner:
+                    if isinstance(method, ast.FunctionDef) and method.name != '__init__':
+                        yield '.'.join(filter(None, (prefix, node.name, method.name)))
+
+
 class Leaks(unittest.TestCase):
     def test_list_has_each_call(self):
         wanted = set(encoding_text.__all__) | {f'codec.{name}' for name in codec.__all__}
@@ -147,6 +167,8 @@ class Leaks(unittest.TestCase):
                              (codec.IncrementalDecoder, 'codec.IncrementalDecoder'), (codec.StreamReader, 'codec.StreamReader')):
             wanted |= names_of(kind, prefix)
         self.assertEqual(set(EACH), wanted)
+        self.assertLessEqual(set(stubs()), set(EACH))
+        self.assertGreater(len(set(stubs())), 15)
 
     def grows(self, call):
         """Returns by how many blocks and bytes the process grows."""
@@ -174,6 +196,29 @@ class Leaks(unittest.TestCase):
                 self.check(call, (name, number))
 
     @unittest.skipIf(_testcapi is None, 'this CPython has no _testcapi')
+    def test_each_call_without_memory(self):
+        for name, calls in EACH.items():
+            failures = [self.failures(call) for call in calls]
+            self.assertGreater(sum(failures), 0, name)
+
+    def failures(self, call):
+        """Lets one of the first allocations of a call fail, each in turn. Returns how many calls failed for that."""
+        count = 0
+        for place in range(PLACES):
+            _testcapi.set_nomemory(place, place + 1)
+            try:
+                call()
+            except MemoryError:
+                count += 1
+            except pickle.PicklingError:  # what CPython makes of it
+                pass
+            except SystemError as error:
+                self.assertRegex(str(error), NO_FRAME)
+            finally:
+                _testcapi.remove_mem_hooks()
+        return count
+
+    @unittest.skipIf(_testcapi is None, 'this CPython has no _testcapi')
     def test_failing_memory(self):
         for call in (encoding_text.repair, lambda data: list(encoding_text.malformed(data)), lambda data: repair().decode(data),
                      lambda data: repair().report(data), lambda data: encoding_text.encode(LONE),
@@ -190,8 +235,8 @@ class Leaks(unittest.TestCase):
                     failures.append(None)
                 except UnicodeDecodeError:
                     pass
-                except SystemError as error:  # CPython 3.11 says so if it has no memory for a frame
-                    self.assertEqual(str(error), 'error return without exception set')
+                except SystemError as error:
+                    self.assertRegex(str(error), NO_FRAME)
                 finally:
                     _testcapi.remove_mem_hooks()
                 if len(failures) > 100:

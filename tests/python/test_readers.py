@@ -7,6 +7,8 @@ import unittest
 
 from encoding_text import codec
 
+import texts
+
 OWN = ('utf-8', 'utf-16-le', 'utf-16-be')
 NAMES = [f'encoding_text_{name}'.replace('-', '_') for name in OWN]
 LINES = ('one', '', 'na\xefve', '\u4f60\u597d', '\U0001f600' * 30, 'long ' * 40)
@@ -112,6 +114,13 @@ class Readers(unittest.TestCase):
                     continue  # surrogateescape escapes no ASCII byte of UTF-16
                 for found in self.ways(name, data, errors):
                     self.assertEqual(found, wanted, (data.hex(), errors))
+
+    def test_long(self):
+        for data in texts.long():
+            data += b'.'  # so that nothing is incomplete
+            reader = codec.StreamReader(io.BytesIO(data), 'replace')
+            self.assertEqual(reader.decode(data, 'replace'), (texts.text(data), len(data)))
+            self.assertEqual(reader.read(), texts.text(data))
 
     def test_incomplete_ends(self):
         rows = ((b'\xe2\x98', 0, '\ufffd'), (b'a\xe2\x98', 0, 'a\ufffd'), (b'\xef\xbb', 1, '\ubbef'), (b'\xef\xbb', 0, '\ufffd'),

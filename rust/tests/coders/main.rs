@@ -9,6 +9,7 @@ mod encodings;
 mod indices;
 mod parts;
 mod random;
+mod rooms;
 mod runs;
 mod texts;
 mod types;

@@ -1,6 +1,7 @@
 //! Random text, damaged text and code units, from a generator with a fixed seed.
 #![allow(dead_code)]
 
+pub mod long_texts;
 pub mod rows;
 pub mod runs;
 pub mod text_destinations;

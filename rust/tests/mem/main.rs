@@ -12,3 +12,4 @@ mod guard;
 mod memory;
 mod random;
 mod replacing;
+mod rooms;

@@ -1,9 +1,11 @@
 //! How often and how much memory the calls with owned results request: once for an owned result, and never for a
-//! borrowed one.
+//! borrowed one. And what happens if there is none.
 
 use crate::common::rows::named;
 use encoding_text::mem::{decode_latin1, encode_latin1_lossy};
 use encoding_text::{repair, utf8_chunks};
+#[cfg(feature = "std")]
+use encoding_text::{DecodeUtf16, Repair, UTF_16LE};
 use std::alloc::{GlobalAlloc, Layout, System};
 use std::cell::Cell;
 use std::hint::black_box;
@@ -24,6 +26,8 @@ const NONE: Counts = Counts {
 
 thread_local! {
     static COUNTS: Cell<Counts> = const { Cell::new(NONE) };
+    /// Whether each request is refused.
+    static REFUSES: Cell<bool> = const { Cell::new(false) };
 }
 
 /// Adds a request, or memory that is given back. A block that shrinks is no request.
@@ -39,7 +43,7 @@ fn count(before: usize, after: usize) {
     });
 }
 
-/// The allocator of the system, whose requests are counted.
+/// The allocator of the system, whose requests are counted. A thread may have its own refused.
 struct Counting;
 
 // SAFETY: each call is passed on to the allocator of the system. Counting allocates nothing: the counts are constant at
@@ -47,12 +51,18 @@ struct Counting;
 unsafe impl GlobalAlloc for Counting {
     unsafe fn alloc(&self, layout: Layout) -> *mut u8 {
         count(0, layout.size());
+        if REFUSES.get() {
+            return std::ptr::null_mut();
+        }
         // SAFETY: the caller promises what the allocator of the system requires.
         unsafe { System.alloc(layout) }
     }
 
     unsafe fn alloc_zeroed(&self, layout: Layout) -> *mut u8 {
         count(0, layout.size());
+        if REFUSES.get() {
+            return std::ptr::null_mut();
+        }
         // SAFETY: as above.
         unsafe { System.alloc_zeroed(layout) }
     }
@@ -201,4 +211,60 @@ fn no_request() {
         let (malformed, counts) = counted(|| encoding_text::repair_to(&bytes, sink).unwrap());
         assert_eq!((malformed, counts), (20_000, NONE));
     }
+}
+
+/// The calls that request memory, each with bytes for whose text it requests some.
+#[cfg(feature = "std")]
+const REQUESTING: &[(&str, fn())] = &[
+    ("repair", || drop(black_box(repair(b"a\xFF")))),
+    ("decode_latin1", || drop(black_box(decode_latin1(b"a\xE9")))),
+    ("encode_latin1_lossy", || drop(black_box(encode_latin1_lossy("aé")))),
+    ("UTF_16LE.decode", || drop(black_box(UTF_16LE.decode(b"a\0")))),
+    ("UTF_16LE.decode_with_bom_removal", || {
+        drop(black_box(UTF_16LE.decode_with_bom_removal(b"a\0")));
+    }),
+    ("UTF_16LE.decode_without_bom_handling", || {
+        drop(black_box(UTF_16LE.decode_without_bom_handling(b"a\0")));
+    }),
+    ("UTF_16LE.decode_without_bom_handling_and_without_replacement", || {
+        drop(black_box(
+            UTF_16LE.decode_without_bom_handling_and_without_replacement(b"a\0"),
+        ));
+    }),
+    ("Repair::new", || drop(black_box(Repair::new(&b"a"[..])))),
+    ("Repair::with_capacity", || {
+        drop(black_box(Repair::with_capacity(8, &b"a"[..])))
+    }),
+    ("DecodeUtf16::new", || drop(black_box(DecodeUtf16::new(&b"a"[..])))),
+    ("DecodeUtf16::with_capacity", || {
+        drop(black_box(DecodeUtf16::with_capacity(8, &b"a"[..])));
+    }),
+];
+
+/// If a request is refused, the process ends as it does with a collection of std. So each call has a process of its own,
+/// which runs only this test, with the name of the call.
+#[cfg(all(unix, feature = "std"))]
+#[test]
+fn refused() {
+    use std::os::unix::process::ExitStatusExt;
+    const ONLY: &str = "ENCODING_TEXT_REFUSED";
+    if let Some(only) = std::env::var_os(ONLY) {
+        let (_, call) = REQUESTING.iter().find(|(name, _)| only == **name).unwrap();
+        REFUSES.set(true);
+        call();
+        REFUSES.set(false);
+        return;
+    }
+    for (name, call) in REQUESTING {
+        assert!(counted(call).1.requests > 0, "{name}");
+        let mut single = std::process::Command::new(std::env::current_exe().unwrap());
+        single
+            .args(["--exact", "memory::refused", "--nocapture"])
+            .env(ONLY, name);
+        let ended = single.output().unwrap();
+        let said = String::from_utf8_lossy(&ended.stderr);
+        assert!(said.contains("memory allocation of "), "{name}: {said}");
+        assert_eq!(ended.status.signal(), Some(6), "{name}");
+    }
+    assert_eq!(REQUESTING.len(), 11);
 }

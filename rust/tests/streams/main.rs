@@ -11,3 +11,5 @@ mod places;
 mod readers;
 #[cfg(feature = "std")]
 mod repair;
+#[cfg(feature = "std")]
+mod rooms;
