@@ -5,7 +5,7 @@ use Rattle.std.specs.Char.Escape.{encode_utf16}
 use Rattle.std.specs.List.{flat_map}
 use Rattle.std.specs.Str.{all_scalars}
 use Rattle.std.proofs.lemmas.Bool.{and_parts, both_ways, cases_lt}
-use Rattle.std.proofs.lemmas.List.{length-drop, length-take, nil_from_length, take_all}
+use Rattle.std.proofs.lemmas.List.{length-drop, length-take, nil_from_length}
 use Rattle.std.proofs.lemmas.Str.{length-encode, len_utf8_bounds}
 use Rattle.encoding_definitions.specs.Converting.{FittingBegins}
 use Rattle.encoding_definitions.specs.Parts.{Character}
@@ -320,27 +320,6 @@ module _ {A : Type 0} (encode : ℕ → List A) (need : ℕ) where
   held_so Utf16Le p room ended taken out q (inr whole) s = utf16_whole LittleEndian p room ended taken out q whole s
   held_so Utf16Be p room ended taken out q (inl pending) s = utf16_pending BigEndian p room ended taken out q pending s
   held_so Utf16Be p room ended taken out q (inr whole) s = utf16_whole BigEndian p room ended taken out q whole s
-
-  -- ---- bytes of which all are pending after the call
-  pub pending_read : (e : Encoding) (p : List ℕ) (room : ℕ) (ended : DecoderResult) (taken : ℕ) (out : List A) (q : List ℕ) → need ≤ room
-      → IsPendingIn e p → StepIn encode need e [] p room false ended taken out q → q ≡ p
-  pending_read Utf8 p room ended taken out q enough pending s =
-      (utf8.one_result encode need [] p room false ended InputEmpty taken (length p) out [] q p (inl refl) s (utf8_open p room pending (λ not. enough))).3
-  pending_read Utf16Le p room ended taken out q enough pending s =
-      (utf16.one_result LittleEndian encode need [] p false ended InputEmpty taken (length p) out [] q p s (utf16_open LittleEndian p room pending)).3
-  pending_read Utf16Be p room ended taken out q enough pending s =
-      (utf16.one_result BigEndian encode need [] p false ended InputEmpty taken (length p) out [] q p s (utf16_open BigEndian p room pending)).3
-
-  pub read_pending : (e : Encoding) (p : List ℕ) (room : ℕ) (ended : DecoderResult) (taken : ℕ) (out : List A) (before q : List ℕ)
-      → StepIn encode need e [] p room false ended taken out q → take taken p ≡ before ++ q → length q ≡ length p → IsPendingIn e p
-  read_pending e p room ended taken out before q s kept all = subst (IsPendingIn e) (sym whole) (step_pending e [] p room false ended taken out q s)
-    where
-      none : before ≡ []
-      none = nil_from_length before (omega (arith, ap length kept, all, length-append before q, length-take taken p))
-
-      whole : p ≡ q
-      whole =
-          sym (take_all taken p (omega (arith, ap length kept, all, length-append before q, length-take taken p))) ∙ kept ∙ ap (λ bs. bs ++ q) none
 
   -- ---- nothing is written
   module _ (longer : (c : ℕ) → IsScalar c → 0 < length (encode c)) where

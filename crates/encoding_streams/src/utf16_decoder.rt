@@ -6,7 +6,7 @@ pub(crate) mod code_unit;
 mod paired;
 pub(crate) mod pending;
 mod units;
-mod window;
+pub(crate) mod window;
 
 ghost use Rattle.std.specs.Prelude.{◌≡◌, ◌≢◌, ◌<◌, ◌≤◌, ◌↔◌, ◌⊎◌, ◌+◌, ◌-◌, ◌*◌, [], length, take, drop, encode_utf8, IsTrue};
 ghost use Rattle.std.specs.Option.{SomeIff};

@@ -9,8 +9,10 @@ use super::inner::{Inner, Output};
 use super::is_utf8;
 use crate::encoding::{BomHandling, Encoding, begins_mark, found_mark, mark_length};
 use crate::utf16_decoder::pending::Pending;
+use crate::utf16_decoder::window;
 use encoding_kernels::scalar::{begins_several, is_continuation, is_second};
 use encoding_text::decoder::DecoderResult;
+use encoding_text::utf_16::ByteOrder;
 
 /// The encoding, the marks that are looked for, and the bytes that were read and are still to be decoded.
 #[derive(Drop)]
@@ -49,12 +51,14 @@ fn is_pending_in(encoding: Encoding, bytes: &[u8]) -> bool
     ensures yes { result ≡ true → IsPendingIn encoding bytes.now }
     ensures no { result ≡ false → IsPendingIn encoding bytes.now → ⊥ }
 {
-    if is_utf8(encoding) {
-        return bytes.is_empty() || is_incomplete(bytes);
+    if bytes.len() > 3 {
+        return false;
     }
-    let mut inner = Inner::new(encoding);
-    u16::decode(&mut inner, bytes, &mut [0; 2], false);
-    inner.pending_length() == bytes.len()
+    match encoding {
+        Encoding::Utf8 => bytes.is_empty() || is_incomplete(bytes),
+        Encoding::Utf16Le => window::is_incomplete(ByteOrder::LittleEndian, bytes),
+        Encoding::Utf16Be => window::is_incomplete(ByteOrder::BigEndian, bytes),
+    }
 }
 
 /// Returns whether a decoder that looks for these marks may have the bytes pending.

@@ -62,7 +62,7 @@ pub(super) fn first_of(order: ByteOrder, bytes: &[u8]) -> First
 
 /// Returns whether the bytes are the start of a character that isn't whole, or none.
 #[inline(always)]
-pub(super) fn is_incomplete(order: ByteOrder, bytes: &[u8]) -> bool
+pub(crate) fn is_incomplete(order: ByteOrder, bytes: &[u8]) -> bool
     requires at_most_four { length bytes.now ≤ 4 }
     ensures yes { result ≡ true → IsPendingUtf16 order bytes.now }
     ensures no { result ≡ false → IsPendingUtf16 order bytes.now → ⊥ }
