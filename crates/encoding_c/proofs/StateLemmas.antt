@@ -1,6 +1,7 @@
 -- What is kept between two calls: of a decoder the pending bytes; of an encoder the pending surrogate, the last unit of the source or
 -- the one before.
-use Rattle.std.proofs.Common.{◌≡◌, ℕ, zero, suc, ◌+◌, ◌-◌, ◌≤◌, inl, inr, Bool, false, true≢false, List, [], ◌∷◌, ◌++◌, length, take, slice_index, refl, sym, ap, ◌∙◌, arith, encode_utf8_all, ◌<◌}
+use Rattle.std.proofs.Common.{◌≡◌, ℕ, zero, suc, ◌+◌, ◌-◌, ◌≤◌, inl, inr, Bool, false, true≢false, List, [], ◌∷◌, ◌++◌, length, take, slice_index, refl, sym}
+use Rattle.std.proofs.Common.{ap, ◌∙◌, arith, encode_utf8_all, ◌<◌}
 use Rattle.std.proofs.lemmas.List.{append-nil, take_all, get_or-append-add, length-append}
 use Rattle.encoding_definitions.specs.Sequence.{IsPending}
 use Rattle.encoding_text.specs.OneResult.{AreSamePiece}

@@ -1,6 +1,7 @@
 //! Conversions of whole buffers. The rest of `dst` is unchanged.
 
-ghost use Rattle.std.specs.Prelude.{◌≡◌, ◌*◌, ◌%◌, ◌<◌, ◌≤◌, ℕ, List, [], ◌∷◌, take, length, map, encode_utf8, encode_utf8_all, IsUtf8};
+ghost use Rattle.std.specs.Prelude.{◌≡◌, ◌*◌, ◌%◌, ◌<◌, ◌≤◌, ℕ, List, [], ◌∷◌, take, length, map, encode_utf8};
+ghost use Rattle.std.specs.Prelude.{encode_utf8_all, IsUtf8};
 ghost use Rattle.std.specs.List.{flat_map};
 ghost use Rattle.std.specs.Str.{IsAscii, chars};
 ghost use Rattle.std.specs.Char.Escape.{encode_utf16};

@@ -25,8 +25,8 @@ pub struct EncodingCountedProgress {
     pub replaced: usize,
 }
 
-/// Converts the longest prefix of whole characters that fits from UTF-16 to UTF-8, and counts the unpaired surrogates in
-/// it: U+FFFD is written for each.
+/// Converts the longest prefix of whole characters that fits from UTF-16 to UTF-8, and counts the unpaired surrogates
+/// in it: U+FFFD is written for each.
 #[unsafe(no_mangle)]
 pub extern "C" fn encoding_text_mem_convert_utf16_to_utf8_partial_with_count(
     src: &[u16],
@@ -46,9 +46,9 @@ pub extern "C" fn encoding_text_mem_convert_utf16_to_utf8_partial_with_count(
     }
 }
 
-/// Converts the longest prefix of whole characters that fits from UTF-16 into a text, and counts the unpaired surrogates in
-/// it: U+FFFD is written for each. The continuation bytes directly after what is written become zero. Returns
-/// `INVALID_ARGUMENT` for the first two counts if `dst` is ill-formed.
+/// Converts the longest prefix of whole characters that fits from UTF-16 into a text, and counts the unpaired
+/// surrogates in it: U+FFFD is written for each. The continuation bytes directly after what is written become zero.
+/// Returns `INVALID_ARGUMENT` for the first two counts if `dst` is ill-formed.
 #[unsafe(no_mangle)]
 pub extern "C" fn encoding_text_mem_convert_utf16_to_str_partial_with_count(
     src: &[u16],
@@ -79,8 +79,8 @@ pub extern "C" fn encoding_text_mem_convert_utf16_to_str_partial_with_count(
     }
 }
 
-/// Encodes the pending surrogate, then `src`, and counts the unpaired surrogates that it replaced. `last` marks the last
-/// call. The rest of `dst` is unchanged.
+/// Encodes the pending surrogate, then `src`, and counts the unpaired surrogates that it replaced. `last` marks the
+/// last call. The rest of `dst` is unchanged.
 #[tactic(auto, using(crate::proofs::StateLemmas::unit_after))]
 #[unsafe(no_mangle)]
 pub extern "C" fn encoding_text_utf8_encoder_encode_from_utf16_with_count(
@@ -112,8 +112,9 @@ pub extern "C" fn encoding_text_utf8_encoder_encode_from_utf16_with_count(
     }
 }
 
-/// Encodes U+FFFD for a pending surrogate, then the text, and returns as `replaced` whether it wrote that U+FFFD. The rest
-/// of `dst` is unchanged. `result` is `INVALID_ARGUMENT_U8` if the bytes are ill-formed: then nothing is read or written.
+/// Encodes U+FFFD for a pending surrogate, then the text, and returns as `replaced` whether it wrote that U+FFFD. The
+/// rest of `dst` is unchanged. `result` is `INVALID_ARGUMENT_U8` if the bytes are ill-formed: then nothing is read or
+/// written.
 #[unsafe(no_mangle)]
 pub extern "C" fn encoding_text_utf8_encoder_encode_from_utf8_with_count(
     encoder: &mut EncodingUtf8Encoder,

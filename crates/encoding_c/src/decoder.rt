@@ -1,9 +1,11 @@
 //! The streaming decoder: Encoding Standard, section 8.1.1. Between two calls it is in the caller's storage.
 
-ghost use Rattle.std.specs.Prelude.{◌≡◌, ℕ, ◌<◌, ◌≤◌, ◌↔◌, ◌⊎◌, ◌+◌, List, [], ◌++◌, length, take, slice_index, min, encode_utf8, IsTrue};
+ghost use Rattle.std.specs.Prelude.{◌≡◌, ℕ, ◌<◌, ◌≤◌, ◌↔◌, ◌⊎◌, ◌+◌, List, [], ◌++◌, length, take, slice_index, min};
+ghost use Rattle.std.specs.Prelude.{encode_utf8, IsTrue};
 ghost use Rattle.std.specs.Char.Escape.{encode_utf16};
 ghost use Rattle.encoding_definitions.specs.Sequence.{IsPending};
-ghost use Rattle.encoding_text.specs.Decoding.{DecodeStepInto, BorrowedDecodeStep, Suffices, SufficesReplacing, max_utf16_length, max_utf8_length, max_utf8_length_with_replacement};
+ghost use Rattle.encoding_text.specs.Decoding.{DecodeStepInto, BorrowedDecodeStep, Suffices, SufficesReplacing};
+ghost use Rattle.encoding_text.specs.Decoding.{max_utf16_length, max_utf8_length, max_utf8_length_with_replacement};
 ghost use Rattle.encoding_c.specs.States.{Represents, IsCodeOf, DecoderCall, PieceCall};
 
 use encoding_text::decoder::{DecoderResult, Piece, Utf8Decoder};
@@ -52,7 +54,7 @@ fn is_all_read(piece: &Piece) -> bool
 #[inline(never)]
 #[tactic(auto, using(crate::proofs::StateLemmas::pending_again))]
 fn restored_pending(state: EncodingUtf8Decoder) -> Utf8Decoder
-    ensures stands { Represents state result }
+    ensures represented { Represents state result }
 {
     if state.count > MAX_PENDING {
         return Utf8Decoder::new_inner();
@@ -69,7 +71,7 @@ fn restored_pending(state: EncodingUtf8Decoder) -> Utf8Decoder
 /// Returns the decoder that the storage represents. In most calls nothing is pending, and then no call is needed.
 #[inline(always)]
 pub(crate) fn restored(state: EncodingUtf8Decoder) -> Utf8Decoder
-    ensures stands { Represents state result }
+    ensures represented { Represents state result }
 {
     if state.count == 0 {
         return Utf8Decoder::new_inner();

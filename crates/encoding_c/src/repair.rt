@@ -115,8 +115,8 @@ pub extern "C" fn encoding_text_repair_slice(src: &[u8], dst: &mut [u8]) -> Enco
             replaced: 0,
         };
     }
-    // After the test: before it, one store would clear both fields, and 16 fewer bytes of code would precede the loop. More of its jumps
-    // would then end at a multiple of 32 bytes, where they are slow.
+    // After the test: before it, one store would clear both fields, and 16 fewer bytes of code would precede the loop.
+    // More of its jumps would then end at a multiple of 32 bytes, where they are slow.
     let mut buffer = Buffer {
         room: dst,
         written: 0,

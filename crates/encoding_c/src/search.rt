@@ -14,9 +14,9 @@ use crate::status::INVALID_ARGUMENT;
 use encoding_runs::malformed::Malformation;
 use encoding_runs::search::{MalformedSearch, SearchPiece, StreamMalformation, search_block};
 
-/// A search between two calls: the offset of the first pending byte, or of the next byte if nothing is pending; the pending
-/// bytes; and their count. The bytes after the pending ones have no meaning. A count and bytes that are no incomplete
-/// sequence represent a search with nothing pending.
+/// A search between two calls: the offset of the first pending byte, or of the next byte if nothing is pending; the
+/// pending bytes; and their count. The bytes after the pending ones have no meaning. A count and bytes that are no
+/// incomplete sequence represent a search with nothing pending.
 #[repr(C)]
 #[derive(Clone, Copy)]
 pub struct EncodingMalformedSearch {
@@ -34,8 +34,8 @@ pub struct EncodingStreamMalformation {
     pub kind: u8,
 }
 
-/// What a call did with a block: how much it read, and how many malformed sequences it stored. It is finished if the whole
-/// block was read and, if it was the last, nothing is pending.
+/// What a call did with a block: how much it read, and how many malformed sequences it stored. It is finished if the
+/// whole block was read and, if it was the last, nothing is pending.
 #[repr(C)]
 #[derive(Clone, Copy)]
 pub struct EncodingSearchBlockResult {
@@ -174,9 +174,9 @@ pub extern "C" fn encoding_text_malformed_search_new(
     };
 }
 
-/// Stores offset, length and kind of each malformed sequence of the next block of a stream, in order. `last` says that no
-/// block follows. The rest of `found` is unchanged. Returns `INVALID_ARGUMENT` for both counts if the offset of the first
-/// byte after `src` exceeds `u64::MAX`: then nothing is read.
+/// Stores offset, length and kind of each malformed sequence of the next block of a stream, in order. `last` says that
+/// no block follows. The rest of `found` is unchanged. Returns `INVALID_ARGUMENT` for both counts if the offset of the
+/// first byte after `src` exceeds `u64::MAX`: then nothing is read.
 #[unsafe(no_mangle)]
 pub extern "C" fn encoding_text_search_block(
     search: &mut EncodingMalformedSearch,

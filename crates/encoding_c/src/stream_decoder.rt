@@ -5,10 +5,14 @@ ghost use Rattle.std.specs.Prelude.{◌≡◌, ◌≤◌, ◌<◌, ◌+◌, ◌�
 ghost use Rattle.std.specs.Str.{IsAscii};
 ghost use Rattle.std.specs.Char.Escape.{encode_utf16};
 ghost use Rattle.encoding_definitions.specs.Prefixes.{IsLongestPrefix};
-ghost use Rattle.encoding_streams.specs.Decoders.{DecoderState, IsReplacingCall, IsReportingCall, SufficesBetweenReports, SufficesReplacing, SufficesReporting, max_utf16_length_in, max_utf8_length_in, max_utf8_length_with_replacement_in, queried};
+ghost use Rattle.encoding_streams.specs.Decoders.{DecoderState, IsReplacingCall, IsReportingCall};
+ghost use Rattle.encoding_streams.specs.Decoders.{SufficesBetweenReports, SufficesReplacing, SufficesReporting};
+ghost use Rattle.encoding_streams.specs.Decoders.{max_utf16_length_in, max_utf8_length_in};
+ghost use Rattle.encoding_streams.specs.Decoders.{max_utf8_length_with_replacement_in, queried};
 ghost use Rattle.encoding_streams.specs.ExactCalls.{AreReportLengths, IsExactCall, IsExactReplacingCall};
 ghost use Rattle.encoding_streams.specs.Marks.{found_mark, mark};
-ghost use Rattle.encoding_c.specs.DecoderStates.{IsEncodingNumber, IsBomNumber, IsCoderCodeOf, ReplacingCall, ReportingCall, RepresentsDecoder};
+ghost use Rattle.encoding_c.specs.DecoderStates.{IsEncodingNumber, IsBomNumber, IsCoderCodeOf, ReplacingCall};
+ghost use Rattle.encoding_c.specs.DecoderStates.{ReportingCall, RepresentsDecoder};
 
 use crate::decoder::MAX_PENDING;
 use crate::status::INVALID_ARGUMENT;
@@ -16,8 +20,8 @@ use crate::utf16_decoder::{EncodingDecoderResult, decoded};
 use encoding_streams::decoder::Decoder;
 use encoding_streams::encoding::{BomHandling, CoderResult, Encoding};
 
-/// A decoder between two calls: the pending bytes, their count, the number of the encoding, and the number of the marks that
-/// are looked for. The bytes after the pending ones have no meaning, nor has a count above three.
+/// A decoder between two calls: the pending bytes, their count, the number of the encoding, and the number of the marks
+/// that are looked for. The bytes after the pending ones have no meaning, nor has a count above three.
 #[repr(C)]
 #[derive(Clone, Copy)]
 pub struct EncodingDecoder {
@@ -27,8 +31,8 @@ pub struct EncodingDecoder {
     pub bom: u8,
 }
 
-/// What a call returns that replaces malformed sequences: how much it read and wrote, the number of these sequences, and
-/// what ended it.
+/// What a call returns that replaces malformed sequences: how much it read and wrote, the number of these sequences,
+/// and what ended it.
 #[repr(C)]
 #[derive(Clone, Copy)]
 pub struct EncodingCoderResult {
@@ -149,7 +153,8 @@ fn coder_number(ended: CoderResult) -> u8
     }
 }
 
-/// Returns the byte order mark that the bytes start with: its length, 0 if there is none, and the number of its encoding.
+/// Returns the byte order mark that the bytes start with: its length, 0 if there is none, and the number of its
+/// encoding.
 #[unsafe(no_mangle)]
 pub extern "C" fn encoding_text_for_bom(src: &[u8]) -> EncodingBom
     ensures found { (e : Encoding) → found_mark BomHandling.Sniff Encoding.Utf8 src.now ≡ Some e
@@ -203,9 +208,9 @@ pub extern "C" fn encoding_text_decoder_in_neutral_state(decoder: &EncodingDecod
     count == 0 && bom_number(inner.bom_handling()) == BOM_OFF
 }
 
-/// Returns the length in code units of a destination that is large enough for the next `byte_length` bytes in UTF-16, also
-/// with U+FFFD for each malformed sequence. Returns `usize::MAX` if that length, or the sum of the bytes, the pending ones
-/// and one, reaches or exceeds it.
+/// Returns the length in code units of a destination that is large enough for the next `byte_length` bytes in UTF-16,
+/// also with U+FFFD for each malformed sequence. Returns `usize::MAX` if that length, or the sum of the bytes, the
+/// pending ones and one, reaches or exceeds it.
 #[unsafe(no_mangle)]
 pub extern "C" fn encoding_text_decoder_max_utf16_buffer_length(
     decoder: &EncodingDecoder,
@@ -240,8 +245,8 @@ pub extern "C" fn encoding_text_decoder_max_utf8_buffer_length(
     }
 }
 
-/// Returns the length in bytes of a destination that is large enough for the next `byte_length` bytes in UTF-8, if nothing
-/// is written for malformed sequences. Returns `usize::MAX` if the length reaches or exceeds it.
+/// Returns the length in bytes of a destination that is large enough for the next `byte_length` bytes in UTF-8, if
+/// nothing is written for malformed sequences. Returns `usize::MAX` if the length reaches or exceeds it.
 #[unsafe(no_mangle)]
 pub extern "C" fn encoding_text_decoder_max_utf8_buffer_length_without_replacement(
     decoder: &EncodingDecoder,
@@ -257,8 +262,8 @@ pub extern "C" fn encoding_text_decoder_max_utf8_buffer_length_without_replaceme
     }
 }
 
-/// Returns the length of the longest ASCII prefix of the next bytes, each of which is one character of that number. Returns
-/// `usize::MAX` unless the encoding is UTF-8, nothing is pending and no mark is looked for.
+/// Returns the length of the longest ASCII prefix of the next bytes, each of which is one character of that number.
+/// Returns `usize::MAX` unless the encoding is UTF-8, nothing is pending and no mark is looked for.
 #[unsafe(no_mangle)]
 pub extern "C" fn encoding_text_decoder_latin1_byte_compatible_up_to(
     decoder: &EncodingDecoder,
@@ -277,8 +282,8 @@ pub extern "C" fn encoding_text_decoder_latin1_byte_compatible_up_to(
     }
 }
 
-/// Decodes the next bytes to UTF-16, with U+FFFD for each malformed sequence. `last` says that no byte follows `src`. The
-/// rest of `dst` is unchanged.
+/// Decodes the next bytes to UTF-16, with U+FFFD for each malformed sequence. `last` says that no byte follows `src`.
+/// The rest of `dst` is unchanged.
 #[unsafe(no_mangle)]
 pub extern "C" fn encoding_text_decoder_decode_to_utf16(
     decoder: &mut EncodingDecoder,
@@ -329,8 +334,8 @@ pub extern "C" fn encoding_text_decoder_decode_to_utf16_without_replacement(
     decoded(ended, read, written)
 }
 
-/// Decodes the next bytes to UTF-8, with U+FFFD for each malformed sequence. `last` says that no byte follows `src`. The
-/// rest of `dst` is unchanged.
+/// Decodes the next bytes to UTF-8, with U+FFFD for each malformed sequence. `last` says that no byte follows `src`.
+/// The rest of `dst` is unchanged.
 #[unsafe(no_mangle)]
 pub extern "C" fn encoding_text_decoder_decode_to_utf8(
     decoder: &mut EncodingDecoder,

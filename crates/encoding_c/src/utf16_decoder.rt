@@ -1,12 +1,14 @@
 //! The streaming decoder of UTF-16LE and UTF-16BE: Encoding Standard, section 14.2, shared UTF-16 decoder. Between two
 //! calls it is in the caller's storage.
 
-ghost use Rattle.std.specs.Prelude.{◌≡◌, ℕ, ◌<◌, ◌≤◌, ◌↔◌, ◌⊎◌, ◌+◌, List, [], ◌++◌, length, take, min, encode_utf8, IsTrue, IsFalse};
+ghost use Rattle.std.specs.Prelude.{◌≡◌, ℕ, ◌<◌, ◌≤◌, ◌↔◌, ◌⊎◌, ◌+◌, List, [], ◌++◌, length, take, min, encode_utf8};
+ghost use Rattle.std.specs.Prelude.{IsTrue, IsFalse};
 ghost use Rattle.std.specs.Char.Escape.{encode_utf16};
 ghost use Rattle.encoding_text.specs.Decoding.{Suffices};
 ghost use Rattle.encoding_text.specs.declared.utf_16.ByteOrder.TheVariants.{LittleEndian, BigEndian};
 ghost use Rattle.encoding_streams.specs.Utf16Parts.{IsPendingUtf16};
-ghost use Rattle.encoding_streams.specs.Utf16Decoding.{DecodeUtf16StepInto, SufficesReplacingUtf16, Utf16State, max_utf16_length_from_utf16, max_utf8_length_from_utf16};
+ghost use Rattle.encoding_streams.specs.Utf16Decoding.{DecodeUtf16StepInto, SufficesReplacingUtf16, Utf16State};
+ghost use Rattle.encoding_streams.specs.Utf16Decoding.{max_utf16_length_from_utf16, max_utf8_length_from_utf16};
 ghost use Rattle.encoding_c.specs.States.{IsByteOrder, IsUtf16CodeOf, RepresentsUtf16, Utf16Call};
 
 use crate::decoder::{Ended, numbers};
@@ -71,7 +73,7 @@ fn restored_pending(state: EncodingUtf16Decoder) -> Utf16Decoder
 /// Returns the decoder that the storage represents. In most calls nothing is pending, and then no call is needed.
 #[inline(always)]
 pub(crate) fn restored(state: EncodingUtf16Decoder) -> Utf16Decoder
-    ensures stands { RepresentsUtf16 state result }
+    ensures represented { RepresentsUtf16 state result }
 {
     if state.count == 0 {
         return Utf16Decoder::new(byte_order(state.big_endian));
@@ -79,7 +81,8 @@ pub(crate) fn restored(state: EncodingUtf16Decoder) -> Utf16Decoder
     restored_pending(state)
 }
 
-/// Stores a decoder after its call. In most calls nothing is pending before and after, and then the storage stays as it is.
+/// Stores a decoder after its call. In most calls nothing is pending before and after, and then the storage stays as it
+/// is.
 #[inline(always)]
 fn store(storage: &mut EncodingUtf16Decoder, decoder: &Utf16Decoder)
     requires order { IsByteOrder storage.old.big_endian decoder.now.order }

@@ -1,5 +1,6 @@
 -- Calls that report malformed sequences, one after another: of pending bytes and of a source, and after a mark.
-use Rattle.std.proofs.Common.{◌≡◌, ◌≢◌, ℕ, ◌+◌, ◌-◌, ◌<◌, ◌≤◌, inl, inr, ◌⊎◌, Bool, true, false, List, [], ◌∷◌, ◌++◌, length, take, drop, map, refl, sym, ap, subst, ◌∙◌, arith, append-nil, append_assoc, length-append, take-append-drop}
+use Rattle.std.proofs.Common.{◌≡◌, ◌≢◌, ℕ, ◌+◌, ◌-◌, ◌<◌, ◌≤◌, inl, inr, ◌⊎◌, Bool, true, false, List, [], ◌∷◌, ◌++◌, length, take, drop, map, refl, sym, ap}
+use Rattle.std.proofs.Common.{subst, ◌∙◌, arith, append-nil, append_assoc, length-append, take-append-drop}
 use Rattle.std.proofs.lemmas.Bool.{both_ways}
 use Rattle.std.proofs.lemmas.Grind.{flat_map-append}
 use Rattle.std.proofs.lemmas.List.{take_rest, take_all, drop_all, drop_at, length-drop}
@@ -13,7 +14,8 @@ use Rattle.encoding_text.specs.declared.decoder.DecoderResult.TheVariants.{Input
 use Rattle.encoding_streams.specs.declared.encoding.Encoding.{Encoding}
 use Rattle.encoding_streams.specs.declared.decoder.inner.Inner.{Inner}
 use Rattle.encoding_streams.specs.declared.decoder.inner.Inner.TheVariants.{OfUtf8, OfUtf16}
-use Rattle.encoding_streams.specs.Decoders.{DecoderState, IsReportingCall, EndsReporting, IsFull, FittingBeginsIn, YieldParts, SufficesReporting, SufficesBetweenReports, decoding}
+use Rattle.encoding_streams.specs.Decoders.{DecoderState, IsReportingCall, EndsReporting, IsFull, FittingBeginsIn, YieldParts, SufficesReporting}
+use Rattle.encoding_streams.specs.Decoders.{SufficesBetweenReports, decoding}
 use Rattle.encoding_streams.specs.DecoderSteps.{state_of}
 use Rattle.encoding_streams.specs.ExactCalls.{reported_with}
 use Rattle.encoding_streams.proofs.DecoderYieldLemmas.{YieldParts-append}

@@ -9,7 +9,8 @@ use Rattle.encoding_streams.specs.declared.encoding.Encoding.TheVariants.{Utf8, 
 use Rattle.encoding_streams.specs.declared.encoding.CoderResult.{CoderResult}
 use Rattle.encoding_streams.specs.declared.encoding.CoderResult.TheVariants as coder
 use Rattle.encoding_streams.specs.Decoders.{DecoderState, decoding}
-use Rattle.encoding_streams.specs.ExactCalls.{StepIn, AfterPending, Decodes, DecodesFrom, DecodesPending, DecodesSource, IsExactCall, ReplaceInTurn, Reported, Start, ended_by, start_of}
+use Rattle.encoding_streams.specs.ExactCalls.{StepIn, AfterPending, Decodes, DecodesFrom, DecodesPending, DecodesSource, IsExactCall, ReplaceInTurn, Reported}
+use Rattle.encoding_streams.specs.ExactCalls.{Start, ended_by, start_of}
 use Rattle.encoding_streams.proofs.PendingCallLemmas.{idle, progress, waits, wants}
 use Rattle.encoding_streams.proofs.ReportedCallLemmas.{kind}
 use Rattle.encoding_streams.proofs.Utf16OneResultLemmas as utf16

@@ -1,5 +1,6 @@
 -- Exactly what a call that reports returns: of the pending bytes and the source, and after a mark.
-use Rattle.std.proofs.Common.{◌≡◌, ◌≢◌, ℕ, ◌+◌, ◌-◌, ◌<◌, inl, inr, ◌⊎◌, Bool, true, false, List, [], ◌∷◌, ◌++◌, length, take, drop, refl, sym, ap, subst, ◌∙◌, arith, append-nil}
+use Rattle.std.proofs.Common.{◌≡◌, ◌≢◌, ℕ, ◌+◌, ◌-◌, ◌<◌, inl, inr, ◌⊎◌, Bool, true, false, List, [], ◌∷◌, ◌++◌, length, take, drop, refl, sym, ap, subst, ◌∙◌}
+use Rattle.std.proofs.Common.{arith, append-nil}
 use Rattle.std.specs.Prelude.{Some, None}
 use Rattle.std.specs.Char.{IsScalar}
 use Rattle.std.proofs.lemmas.Bool.{both_ways}
@@ -14,7 +15,8 @@ use Rattle.encoding_streams.specs.declared.encoding.Encoding.TheVariants.{Utf8, 
 use Rattle.encoding_streams.specs.declared.encoding.BomHandling.TheVariants.{Off}
 use Rattle.encoding_streams.specs.Marks.{begins_mark}
 use Rattle.encoding_streams.specs.Decoders.{DecoderState, decoding}
-use Rattle.encoding_streams.specs.ExactCalls.{StepIn, IsPendingIn, AfterPending, Decodes, DecodesFrom, DecodesPending, DecodesSource, IsExactCall, IsIdle, MakesNoProgress, NeedsSpaceAtEnd, reported_with}
+use Rattle.encoding_streams.specs.ExactCalls.{StepIn, IsPendingIn, AfterPending, Decodes, DecodesFrom, DecodesPending, DecodesSource, IsExactCall, IsIdle}
+use Rattle.encoding_streams.specs.ExactCalls.{MakesNoProgress, NeedsSpaceAtEnd, reported_with}
 use Rattle.encoding_streams.specs.DecoderSteps.{IsSniffed, IsStop}
 use Rattle.encoding_streams.proofs.PendingStepLemmas.{nothing_pending, step_pending}
 use Rattle.encoding_streams.proofs.PendingCallLemmas.{same_pending}

@@ -1,5 +1,6 @@
 -- Calls of a decoder of any form, one after another over one stream.
-use Rattle.std.proofs.Common.{◌≡◌, ℕ, ◌≤◌, inl, inr, Bool, true, List, [], ◌∷◌, ◌++◌, length, take, drop, encode_utf8, refl, sym, ap, subst, ◌∙◌, arith, length-append, take-append-drop}
+use Rattle.std.proofs.Common.{◌≡◌, ℕ, ◌≤◌, inl, inr, Bool, true, List, [], ◌∷◌, ◌++◌, length, take, drop, encode_utf8, refl, sym, ap, subst, ◌∙◌, arith}
+use Rattle.std.proofs.Common.{length-append, take-append-drop}
 use Rattle.std.specs.Prelude.{Any}
 use Rattle.std.specs.Char.Escape.{encode_utf16}
 use Rattle.std.proofs.lemmas.List.{drop-append-le, nil_from_length, length-drop}
@@ -8,7 +9,8 @@ use Rattle.encoding_definitions.proofs.PrefixesLemmas.{written_is}
 use Rattle.encoding_text.proofs.AnyLemmas.{Any-cons, Any-none}
 use Rattle.encoding_text.specs.Decoding.{AreDecoded}
 use Rattle.encoding_streams.specs.Decoders.{DecoderState, EndsReplacing, EndsReporting, IsAllRead, YieldParts, left}
-use Rattle.encoding_streams.specs.MixedDecoderCalls.{AreMixed, AreOf, AreOfForm, AreOfMixed, DecoderAnswer, DecoderForm, EndsInput, IsCallOf, IsFormOf, Mixed, Replaced, Reports, ToUtf16, ToUtf8, YieldTheStream, after_mixed, unread_by_mixed}
+use Rattle.encoding_streams.specs.MixedDecoderCalls.{AreMixed, AreOf, AreOfForm, AreOfMixed, DecoderAnswer, DecoderForm, EndsInput, IsCallOf, IsFormOf, Mixed}
+use Rattle.encoding_streams.specs.MixedDecoderCalls.{Replaced, Reports, ToUtf16, ToUtf8, YieldTheStream, after_mixed, unread_by_mixed}
 use Rattle.encoding_streams.proofs.DecoderYieldLemmas.{YieldParts-append, count_in}
 use Rattle.encoding_streams.proofs.SniffCallLemmas.{nothing_yielded}
 use Rattle.encoding_streams.proofs.SniffLemmas.{left_off}

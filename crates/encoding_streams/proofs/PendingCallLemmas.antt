@@ -1,5 +1,6 @@
 -- What is pending after a call that reports, and the lengths that it reports.
-use Rattle.std.proofs.Common.{◌≡◌, ℕ, ◌-◌, ◌<◌, ◌≤◌, ◌⊎◌, inl, inr, Bool, true, false, List, [], ◌∷◌, ◌++◌, length, drop, refl, sym, ap, subst, ◌∙◌, arith, append-nil, length-append}
+use Rattle.std.proofs.Common.{◌≡◌, ℕ, ◌-◌, ◌<◌, ◌≤◌, ◌⊎◌, inl, inr, Bool, true, false, List, [], ◌∷◌, ◌++◌, length, drop, refl, sym, ap, subst, ◌∙◌, arith}
+use Rattle.std.proofs.Common.{append-nil, length-append}
 use Rattle.std.specs.Prelude.{Option, None, Some}
 use Rattle.std.specs.Char.{IsScalar}
 use Rattle.std.proofs.lemmas.Bool.{both_ways, cases_lt}
@@ -13,7 +14,8 @@ use Rattle.encoding_streams.specs.declared.encoding.Encoding.TheVariants.{Utf8, 
 use Rattle.encoding_streams.specs.declared.encoding.BomHandling.{BomHandling}
 use Rattle.encoding_streams.specs.Marks.{begins_mark, found_mark, mark}
 use Rattle.encoding_streams.specs.Decoders.{DecoderState}
-use Rattle.encoding_streams.specs.ExactCalls.{StepIn, IsPendingIn, IsPendingOf, AfterPending, AreReportLengths, Decodes, DecodesFrom, DecodesSource, IsExactCall, IsIdle, MakesNoProgress, NeedsSpaceAtEnd, Waits, start_after}
+use Rattle.encoding_streams.specs.ExactCalls.{StepIn, IsPendingIn, IsPendingOf, AfterPending, AreReportLengths, Decodes, DecodesFrom, DecodesSource}
+use Rattle.encoding_streams.specs.ExactCalls.{IsExactCall, IsIdle, MakesNoProgress, NeedsSpaceAtEnd, Waits, start_after}
 use Rattle.encoding_streams.proofs.PendingStepLemmas.{HeldSo, IsHeld, begun_held, held_so, nothing_pending, rest_all, rest_full, step_lengths, step_pending}
 use Rattle.encoding_streams.proofs.ReportedCallLemmas.{kind, not_full}
 use Rattle.encoding_streams.proofs.SniffLemmas.{begun_short}

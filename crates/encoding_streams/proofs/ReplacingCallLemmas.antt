@@ -1,5 +1,6 @@
 -- Calls that write U+FFFD for each malformed sequence: one step, and steps one after another.
-use Rattle.std.proofs.Common.{◌≡◌, ℕ, ◌+◌, ◌-◌, ◌<◌, ◌≤◌, Bool, true, List, [], ◌++◌, length, take, drop, refl, sym, ap, subst, ◌∙◌, arith, append-nil, append_assoc, length-append, take-add}
+use Rattle.std.proofs.Common.{◌≡◌, ℕ, ◌+◌, ◌-◌, ◌<◌, ◌≤◌, Bool, true, List, [], ◌++◌, length, take, drop, refl, sym, ap, subst, ◌∙◌, arith, append-nil}
+use Rattle.std.proofs.Common.{append_assoc, length-append, take-add}
 use Rattle.std.specs.Prelude.{Option, None, Some}
 use Rattle.std.proofs.lemmas.List.{take_rest, drop-drop, length-drop}
 use Rattle.encoding_definitions.specs.Prefixes.{WritesPrefix}
@@ -10,7 +11,8 @@ use Rattle.encoding_text.specs.declared.decoder.DecoderResult.TheVariants as raw
 use Rattle.encoding_streams.specs.declared.encoding.Encoding.{Encoding}
 use Rattle.encoding_streams.specs.declared.encoding.CoderResult.{CoderResult}
 use Rattle.encoding_streams.specs.declared.encoding.CoderResult.TheVariants.{InputEmpty, OutputFull}
-use Rattle.encoding_streams.specs.Decoders.{DecoderState, EndsReporting, EndsReplacing, FittingBeginsIn, IsReplacingCall, Keeps, Replaces, SufficesReplacing, YieldText, left, queried}
+use Rattle.encoding_streams.specs.Decoders.{DecoderState, EndsReporting, EndsReplacing, FittingBeginsIn, IsReplacingCall, Keeps, Replaces, SufficesReplacing}
+use Rattle.encoding_streams.specs.Decoders.{YieldText, left, queried}
 use Rattle.encoding_streams.specs.DecoderSteps.{AreReplacingSteps, IsReplacingStep, LeavesRoom, Reports, replaced_by}
 use Rattle.encoding_streams.proofs.DecoderYieldLemmas.{YieldText-append, YieldText-nil, count_in, decoded_text, reports, written_for}
 use Rattle.encoding_streams.proofs.DecoderCallLemmas.{room_after}

@@ -1,5 +1,6 @@
 -- Calls that report, with what the queries promise of them: of pending bytes and of a source.
-use Rattle.std.proofs.Common.{◌≡◌, ◌≢◌, ℕ, ◌+◌, ◌-◌, ◌<◌, ◌≤◌, inl, inr, ◌⊎◌, Bool, true, false, List, [], ◌++◌, length, take, drop, refl, sym, ap, subst, ◌∙◌, arith, append-nil}
+use Rattle.std.proofs.Common.{◌≡◌, ◌≢◌, ℕ, ◌+◌, ◌-◌, ◌<◌, ◌≤◌, inl, inr, ◌⊎◌, Bool, true, false, List, [], ◌++◌, length, take, drop, refl, sym, ap, subst, ◌∙◌}
+use Rattle.std.proofs.Common.{arith, append-nil}
 use Rattle.std.specs.Prelude.{Some}
 use Rattle.std.proofs.lemmas.Bool.{cases_lt}
 use Rattle.encoding_definitions.proofs.PrefixesLemmas.{WritesPrefix-length}
@@ -12,7 +13,8 @@ use Rattle.encoding_streams.specs.declared.decoder.inner.Inner.{Inner}
 use Rattle.encoding_streams.specs.Decoders.{DecoderState, IsReportingCall, EndsReporting, decoding}
 use Rattle.encoding_streams.specs.DecoderSteps.{IsStop, Reports, state_of}
 use Rattle.encoding_streams.specs.ExactCalls.{reported_with}
-use Rattle.encoding_streams.proofs.DecoderCallLemmas.{inner_stays, room_after, two_calls, two_suffice, two_replaced, held_ends, held_suffice, held_replaced, stopped, room_left, held_whole}
+use Rattle.encoding_streams.proofs.DecoderCallLemmas.{inner_stays, room_after, two_calls, two_suffice, two_replaced, held_ends, held_suffice, held_replaced}
+use Rattle.encoding_streams.proofs.DecoderCallLemmas.{stopped, room_left, held_whole}
 
 abbrev pub kind : DecoderResult → ℕ
 kind InputEmpty = 0

@@ -1,5 +1,6 @@
 -- A call after the start of its stream was read.
-use Rattle.std.proofs.Common.{◌≡◌, ◌≢◌, ℕ, ◌+◌, ◌-◌, ◌<◌, ◌≤◌, inl, inr, ◌⊎◌, Bool, true, List, [], ◌++◌, length, take, drop, max, refl, sym, ap, subst, ◌∙◌, arith, append-nil, append_assoc, length-append, take-add}
+use Rattle.std.proofs.Common.{◌≡◌, ◌≢◌, ℕ, ◌+◌, ◌-◌, ◌<◌, ◌≤◌, inl, inr, ◌⊎◌, Bool, true, List, [], ◌++◌, length, take, drop, max, refl, sym, ap, subst, ◌∙◌}
+use Rattle.std.proofs.Common.{arith, append-nil, append_assoc, length-append, take-add}
 use Rattle.std.proofs.lemmas.Bool.{both_ways}
 use Rattle.std.proofs.lemmas.List.{take_rest, drop-drop, length-drop, length-take, nil_from_length}
 use Rattle.encoding_definitions.specs.Prefixes.{WritesPrefix}
@@ -9,7 +10,8 @@ use Rattle.encoding_streams.specs.declared.encoding.Encoding.{Encoding}
 use Rattle.encoding_streams.specs.declared.encoding.Encoding.TheVariants.{Utf8, Utf16Le, Utf16Be}
 use Rattle.encoding_streams.specs.declared.encoding.BomHandling.{BomHandling}
 use Rattle.encoding_streams.specs.declared.encoding.BomHandling.TheVariants.{Off, Remove, Sniff}
-use Rattle.encoding_streams.specs.Decoders.{DecoderState, EndsReporting, FittingBeginsIn, StartsWithIn, YieldParts, SufficesReporting, left, queried, queried_in}
+use Rattle.encoding_streams.specs.Decoders.{DecoderState, EndsReporting, FittingBeginsIn, StartsWithIn, YieldParts, SufficesReporting, left, queried}
+use Rattle.encoding_streams.specs.Decoders.{queried_in}
 use Rattle.encoding_streams.specs.DecoderSteps.{IsSniffed, Reports}
 use Rattle.encoding_streams.specs.ExactCalls.{IsIdle}
 use Rattle.encoding_streams.proofs.ReportedCallLemmas.{full_no_report, not_full, not_report}

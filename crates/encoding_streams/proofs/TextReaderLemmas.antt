@@ -11,7 +11,8 @@ use Rattle.encoding_streams.specs.declared.encoding.BomHandling.TheVariants.{Off
 use Rattle.encoding_streams.specs.declared.encoding.CoderResult.{CoderResult}
 use Rattle.encoding_streams.specs.declared.encoding.CoderResult.TheVariants.{InputEmpty, OutputFull}
 use Rattle.encoding_streams.specs.Marks.{after_mark, found_mark}
-use Rattle.encoding_streams.specs.Decoders.{DecoderState, EndsReplacing, IsAllRead, IsReplacingCall, SufficesReplacing, YieldText, left, max_utf8_length_with_replacement_in, queried, queried_in}
+use Rattle.encoding_streams.specs.Decoders.{DecoderState, EndsReplacing, IsAllRead, IsReplacingCall, SufficesReplacing, YieldText, left}
+use Rattle.encoding_streams.specs.Decoders.{max_utf8_length_with_replacement_in, queried, queried_in}
 use Rattle.encoding_streams.specs.TextReading.{IsTextOf}
 use Rattle.encoding_streams.proofs.DecoderYieldLemmas.{YieldText-append}
 

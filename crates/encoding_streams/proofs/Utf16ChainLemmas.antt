@@ -1,8 +1,10 @@
 -- What one call of the UTF-16 decoder yields, and a chain of them: the first parts of the pending bytes and the source.
-use Rattle.std.proofs.Common.{◌≡◌, ℕ, ◌+◌, ◌≤◌, inl, inr, Bool, true, false, ◌||◌, List, [], ◌∷◌, ◌++◌, length, take, drop, map, refl, sym, ap, ◌∙◌, arith, subst, append_assoc}
+use Rattle.std.proofs.Common.{◌≡◌, ℕ, ◌+◌, ◌≤◌, inl, inr, Bool, true, false, ◌||◌, List, [], ◌∷◌, ◌++◌, length, take, drop, map, refl, sym, ap, ◌∙◌, arith}
+use Rattle.std.proofs.Common.{subst, append_assoc}
 use Rattle.std.specs.Prelude.{Any}
 use Rattle.std.specs.List.{flat_map}
-use Rattle.std.proofs.lemmas.List.{append_cancel_right, length-append, length-drop, length-take, take-append-drop, take_all, drop-append-le, drop-drop, nil_from_length}
+use Rattle.std.proofs.lemmas.List.{append_cancel_right, length-append, length-drop, length-take, take-append-drop, take_all, drop-append-le, drop-drop}
+use Rattle.std.proofs.lemmas.List.{nil_from_length}
 use Rattle.encoding_text.specs.Parts.{Part, Character, IllFormed}
 use Rattle.encoding_text.specs.Decoding.{AreDecoded}
 use Rattle.encoding_text.specs.declared.utf_16.ByteOrder.{ByteOrder}

@@ -1,6 +1,7 @@
 -- The one list of parts of the bytes of UTF-16LE or UTF-16BE: it exists, it is the only one, and final parts stay for any
 -- bytes that follow.
-use Rattle.std.proofs.Common.{◌≡◌, ◌≢◌, ℕ, zero, suc, ◌<◌, ◌≤◌, ◌⊎◌, inl, inr, Bool, true, false, cond, List, [], ◌∷◌, ◌++◌, length, map, refl, sym, ap, ◌∙◌, arith, subst, append_assoc}
+use Rattle.std.proofs.Common.{◌≡◌, ◌≢◌, ℕ, zero, suc, ◌<◌, ◌≤◌, ◌⊎◌, inl, inr, Bool, true, false, cond, List, [], ◌∷◌, ◌++◌, length, map, refl, sym, ap, ◌∙◌}
+use Rattle.std.proofs.Common.{arith, subst, append_assoc}
 use Rattle.std.specs.Char.Escape.{encode_utf16}
 use Rattle.std.specs.Char.Utf16.{surrogate_pair_char, is_high_surrogate, is_low_surrogate}
 use Rattle.std.specs.List.{flat_map}
@@ -14,8 +15,10 @@ use Rattle.encoding_text.specs.Encoding.{IsPendingSurrogate}
 use Rattle.encoding_text.specs.Utf16Bytes.{bytes_of_scalars, unit_bytes, utf16_bytes}
 use Rattle.encoding_text.specs.declared.utf_16.ByteOrder.{ByteOrder}
 use Rattle.encoding_definitions.proofs.Utf16Lemmas.{first_unit, first_pair}
-use Rattle.encoding_streams.specs.Utf16Parts.{AreBytes, bytes_of_utf16, IsPendingUtf16, IsMalformedUtf16, IsFirstPartUtf16, StartsWithUtf16, ArePartsOfUtf16, AreFinalUtf16}
-use Rattle.encoding_streams.proofs.Utf16ByteLemmas.{unit_at, first_byte, second_byte, two_bytes, unit_of_bytes, bytes_of_unit, unit_at-bound, length-unit_bytes, character_bytes, character_some, bytes_of_scalars-append, pending_nil}
+use Rattle.encoding_streams.specs.Utf16Parts.{AreBytes, bytes_of_utf16, IsPendingUtf16, IsMalformedUtf16, IsFirstPartUtf16, StartsWithUtf16, ArePartsOfUtf16}
+use Rattle.encoding_streams.specs.Utf16Parts.{AreFinalUtf16}
+use Rattle.encoding_streams.proofs.Utf16ByteLemmas.{unit_at, first_byte, second_byte, two_bytes, unit_of_bytes, bytes_of_unit, unit_at-bound, length-unit_bytes}
+use Rattle.encoding_streams.proofs.Utf16ByteLemmas.{character_bytes, character_some, bytes_of_scalars-append, pending_nil}
 
 -- ---- what the first part is, by the bytes
 -- after a high surrogate

@@ -1,6 +1,7 @@
 -- What follows from one call of the UTF-16 decoder: it makes progress, and a destination of the queried length is large
 -- enough.
-use Rattle.std.proofs.Common.{◌≡◌, ℕ, ◌+◌, ◌-◌, ◌*◌, ◌<◌, ◌≤◌, ◌⊎◌, inl, inr, Bool, true, List, [], ◌∷◌, ◌++◌, length, take, drop, encode_utf8, refl, sym, ap, ◌∙◌, arith}
+use Rattle.std.proofs.Common.{◌≡◌, ℕ, ◌+◌, ◌-◌, ◌*◌, ◌<◌, ◌≤◌, ◌⊎◌, inl, inr, Bool, true, List, [], ◌∷◌, ◌++◌, length, take, drop, encode_utf8, refl, sym, ap}
+use Rattle.std.proofs.Common.{◌∙◌, arith}
 use Rattle.std.specs.Char.Escape.{encode_utf16}
 use Rattle.std.specs.List.{flat_map}
 use Rattle.std.specs.Str.{all_scalars}
@@ -17,7 +18,8 @@ use Rattle.encoding_definitions.proofs.Utf16Lemmas.{length-utf8_of_part16}
 use Rattle.std.specs.Char.{IsScalar}
 use Rattle.encoding_text.specs.Utf16Bytes.{bytes_of_scalars}
 use Rattle.encoding_streams.specs.Utf16Parts.{bytes_of_utf16, IsMalformedUtf16, IsFirstPartUtf16}
-use Rattle.encoding_streams.specs.Utf16Decoding.{NeedsMore, DecodeUtf16Step, DecodeUtf16StepInto, SufficesReplacingUtf16, max_utf16_length_from_utf16, max_utf8_length_from_utf16}
+use Rattle.encoding_streams.specs.Utf16Decoding.{NeedsMore, DecodeUtf16Step, DecodeUtf16StepInto, SufficesReplacingUtf16, max_utf16_length_from_utf16}
+use Rattle.encoding_streams.specs.Utf16Decoding.{max_utf8_length_from_utf16}
 use Rattle.encoding_streams.proofs.Utf16ByteLemmas.{length-unit_bytes, length-utf16_bytes, no_characters_pending}
 use Rattle.encoding_streams.proofs.Utf16PartLemmas.{part_bytes}
 

@@ -1,12 +1,14 @@
 -- Steps of a call of the UTF-16 decoder: how one continues another, what a block of code units is, and what the first
 -- bytes after the pending ones are.
-use Rattle.std.proofs.Common.{◌≡◌, ◌≢◌, ℕ, zero, suc, ◌+◌, ◌-◌, ◌*◌, ◌<◌, ◌≤◌, inl, inr, Bool, true, List, [], ◌∷◌, ◌++◌, length, take, drop, refl, sym, ap, ◌∙◌, arith, subst, append_assoc, take-add, encode_utf8}
+use Rattle.std.proofs.Common.{◌≡◌, ◌≢◌, ℕ, zero, suc, ◌+◌, ◌-◌, ◌*◌, ◌<◌, ◌≤◌, inl, inr, Bool, true, List, [], ◌∷◌, ◌++◌, length, take, drop, refl, sym, ap}
+use Rattle.std.proofs.Common.{◌∙◌, arith, subst, append_assoc, take-add, encode_utf8}
 use Rattle.std.specs.Char.{IsScalar}
 use Rattle.std.specs.Char.Escape.{encode_utf16}
 use Rattle.std.specs.List.{flat_map}
 use Rattle.std.specs.Str.{IsAscii, all_scalars}
 use Rattle.std.proofs.lemmas.Bool.{and_parts, and_from, cases_lt}
-use Rattle.std.proofs.lemmas.List.{append-nil, length-append, length-drop, length-take, take_at, take_all, take_rest, drop_at, drop-drop, take-append-drop, take-take}
+use Rattle.std.proofs.lemmas.List.{append-nil, length-append, length-drop, length-take, take_at, take_all, take_rest, drop_at, drop-drop, take-append-drop}
+use Rattle.std.proofs.lemmas.List.{take-take}
 use Rattle.std.proofs.lemmas.List.Concat.{flat_map-append}
 use Rattle.std.proofs.lemmas.Str.{encodes-IsAscii}
 use Rattle.std.proofs.str.Utf16.{one_unit}

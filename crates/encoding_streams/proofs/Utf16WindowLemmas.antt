@@ -1,10 +1,12 @@
 -- What a call of the UTF-16 decoder does at the pending bytes and the first bytes of its source, at most four together.
-use Rattle.std.proofs.Common.{◌≡◌, ◌≢◌, ℕ, ◌+◌, ◌-◌, ◌*◌, ◌/◌, ◌<◌, ◌≤◌, inl, inr, Bool, true, false, List, [], ◌∷◌, ◌++◌, length, take, drop, get_or, min, refl, sym, ap, ◌∙◌, arith, subst, append_assoc}
+use Rattle.std.proofs.Common.{◌≡◌, ◌≢◌, ℕ, ◌+◌, ◌-◌, ◌*◌, ◌/◌, ◌<◌, ◌≤◌, inl, inr, Bool, true, false, List, [], ◌∷◌, ◌++◌, length, take, drop, get_or, min}
+use Rattle.std.proofs.Common.{refl, sym, ap, ◌∙◌, arith, subst, append_assoc}
 use Rattle.std.specs.Char.Escape.{encode_utf16}
 use Rattle.std.specs.List.{flat_map}
 use Rattle.std.specs.Str.{all_scalars}
 use Rattle.std.proofs.lemmas.Bool.{cases_lt}
-use Rattle.std.proofs.lemmas.List.{append-nil, length-append, length-drop, length-take, length-take-le, take_at, take_all, drop_all, drop_at, drop-drop, take-append-drop, take-append-le, drop-append-le, take-take, nil_from_length}
+use Rattle.std.proofs.lemmas.List.{append-nil, length-append, length-drop, length-take, length-take-le, take_at, take_all, drop_all, drop_at, drop-drop}
+use Rattle.std.proofs.lemmas.List.{take-append-drop, take-append-le, drop-append-le, take-take, nil_from_length}
 use Rattle.std.proofs.Math.Seq.{take-append-add}
 use Rattle.encoding_text.specs.Parts.{Part, Character, IllFormed}
 use Rattle.encoding_text.specs.Prefixes.{WritesPrefix}
@@ -22,7 +24,8 @@ use Rattle.encoding_streams.specs.Utf16Decoding.{NeedsMore, DecodeUtf16StepInto}
 use Rattle.encoding_streams.specs.Utf16Steps.{Advances, WritesUnits, BeginsUnpaired, IsFirstOf}
 use Rattle.encoding_streams.specs.declared.utf16_decoder.window.First.{First}
 use Rattle.encoding_streams.specs.declared.utf16_decoder.window.First.TheVariants.{Characters, Unpaired, Incomplete}
-use Rattle.encoding_streams.proofs.Utf16ByteLemmas.{length-unit_bytes, same_unit, length-utf16_bytes, no_character_pending, no_characters_pending, length-pending, pending_nil}
+use Rattle.encoding_streams.proofs.Utf16ByteLemmas.{length-unit_bytes, same_unit, length-utf16_bytes, no_character_pending, no_characters_pending}
+use Rattle.encoding_streams.proofs.Utf16ByteLemmas.{length-pending, pending_nil}
 use Rattle.encoding_streams.proofs.Utf16StepLemmas.{scalars_split, within_units, done_bytes, block_advances, too_long}
 
 third : (xs : List ℕ) → take 1 (drop 2 xs) ≡ drop 2 (take 3 xs)

@@ -1,11 +1,13 @@
 -- What is written of valid code units: the characters that fit, in UTF-8 or in UTF-16.
-use Rattle.std.proofs.Common.{◌≡◌, ℕ, zero, suc, ◌+◌, ◌-◌, ◌*◌, ◌<◌, ◌≤◌, inl, inr, true, min, List, [], ◌∷◌, ◌++◌, length, take, drop, map, get_or, encode_utf8, refl, sym, ap, ◌∙◌, arith, subst, append_assoc}
+use Rattle.std.proofs.Common.{◌≡◌, ℕ, zero, suc, ◌+◌, ◌-◌, ◌*◌, ◌<◌, ◌≤◌, inl, inr, true, min, List, [], ◌∷◌, ◌++◌, length, take, drop, map, get_or}
+use Rattle.std.proofs.Common.{encode_utf8, refl, sym, ap, ◌∙◌, arith, subst, append_assoc}
 use Rattle.std.specs.Char.{IsScalar}
 use Rattle.std.specs.Char.Escape.{encode_utf16}
 use Rattle.std.specs.List.{flat_map}
 use Rattle.std.specs.Str.{all_scalars}
 use Rattle.std.proofs.lemmas.Bool.{and_parts, cases_lt}
-use Rattle.std.proofs.lemmas.List.{append-nil, length-append, length-take, length-take-le, take_at, drop_at, length-drop, length-map, take-append-drop, take-take, get_or-drop, get_or-take, get_or_past}
+use Rattle.std.proofs.lemmas.List.{append-nil, length-append, length-take, length-take-le, take_at, drop_at, length-drop, length-map, take-append-drop}
+use Rattle.std.proofs.lemmas.List.{take-take, get_or-drop, get_or-take, get_or_past}
 use Rattle.std.proofs.lemmas.List.Concat.{flat_map-append}
 use Rattle.std.proofs.str.Utf16.{one_unit, IsPair}
 use Rattle.encoding_text.specs.Prefixes.{WritesPrefix, IsLongestPrefix}

@@ -7,13 +7,17 @@ mod queries;
 mod replacing;
 mod state;
 
-ghost use Rattle.std.specs.Prelude.{◌≡◌, ◌↔◌, ◌+◌, ◌≤◌, true, false, [], length, take, encode_utf8, IsAscii, IsTrue, IsSome, IfSome};
+ghost use Rattle.std.specs.Prelude.{◌≡◌, ◌↔◌, ◌+◌, ◌≤◌, true, false, [], length, take, encode_utf8, IsAscii, IsTrue};
+ghost use Rattle.std.specs.Prelude.{IsSome, IfSome};
 ghost use Rattle.std.specs.Option.{SomeIff};
 ghost use Rattle.std.specs.Char.Escape.{encode_utf16};
 ghost use Rattle.std.specs.Str.{IsUtf8};
 ghost use Rattle.encoding_definitions.specs.Clearing.{WritesAndClears};
 ghost use Rattle.encoding_definitions.specs.Prefixes.{IsLongestPrefix};
-ghost use Rattle.encoding_streams.specs.Decoders.{IsReportingCall, IsReplacingCall, SufficesReporting, SufficesBetweenReports, SufficesReplacing, before_clearing, decoding, queried, max_utf16_length_in, max_utf8_length_in, max_utf8_length_with_replacement_in};
+ghost use Rattle.encoding_streams.specs.Decoders.{IsReportingCall, IsReplacingCall, SufficesReporting};
+ghost use Rattle.encoding_streams.specs.Decoders.{SufficesBetweenReports, SufficesReplacing, before_clearing, decoding};
+ghost use Rattle.encoding_streams.specs.Decoders.{queried, max_utf16_length_in, max_utf8_length_in};
+ghost use Rattle.encoding_streams.specs.Decoders.{max_utf8_length_with_replacement_in};
 ghost use Rattle.encoding_streams.specs.DecoderSteps.{LeavesFree};
 ghost use Rattle.encoding_streams.specs.ExactCalls.{AreReportLengths, IsExactCall, IsExactReplacingCall, IsPendingOf};
 
@@ -48,8 +52,8 @@ impl Model for Decoder {
 }
 
 impl Encoding {
-    /// Returns a decoder of a new stream whose byte order mark decides the encoding: that of UTF-8, UTF-16LE or UTF-16BE.
-    /// With none of these marks the encoding is this one. The mark is removed.
+    /// Returns a decoder of a new stream whose byte order mark decides the encoding: that of UTF-8, UTF-16LE or
+    /// UTF-16BE. With none of these marks the encoding is this one. The mark is removed.
     pub fn new_decoder(self) -> Decoder
         ensures { result ≡ record { encoding = self; bom = BomHandling.Sniff; pending = [] } }
     {
@@ -93,8 +97,8 @@ fn is_utf8(encoding: Encoding) -> bool
 
 impl Decoder {
     /// Returns the decoder that has this encoding, looks for these marks and has these bytes to decode, as the calls
-    /// `encoding`, `bom_handling` and `pending` return them. If no decoder has these, nothing is pending of the one that
-    /// it returns.
+    /// `encoding`, `bom_handling` and `pending` return them. If no decoder has these, nothing is pending of the one
+    /// that it returns.
     pub fn from_state(encoding: Encoding, bom: BomHandling, pending: &[u8]) -> Decoder
         ensures of { (result.encoding ≡ encoding) × (result.bom ≡ bom) }
         ensures state { IsPendingOf bom encoding pending.now → result.pending ≡ pending.now }
@@ -126,8 +130,8 @@ impl Decoder {
         self.state.bom
     }
 
-    /// Returns an array that starts with the bytes that were read and are still to be decoded, and how many they are: the
-    /// start of a mark that is looked for, or, if none is, the start of a character or none.
+    /// Returns an array that starts with the bytes that were read and are still to be decoded, and how many they are:
+    /// the start of a mark that is looked for, or, if none is, the start of a character or none.
     pub fn pending(&self) -> ([u8; 4], usize)
         ensures bytes { take result.1 result.0 ≡ self.now.pending }
         ensures count { result.1 ≡ length self.now.pending }
@@ -139,8 +143,9 @@ impl Decoder {
 
     /// Returns the length in UTF-16 code units of a destination that is large enough for the next `byte_length` bytes,
     /// however they are split into calls, even if U+FFFD is written for each malformed sequence. Let n be the sum of
-    /// `byte_length`, the number of pending bytes and one. The length is n, or, if the encoding is UTF-16, half of n, plus
-    /// one. As long as a mark may decide the encoding, it is the greater of both. `None` if n exceeds `usize::MAX`.
+    /// `byte_length`, the number of pending bytes and one. The length is n, or, if the encoding is UTF-16, half of n,
+    /// plus one. As long as a mark may decide the encoding, it is the greater of both. `None` if n exceeds
+    /// `usize::MAX`.
     pub fn max_utf16_buffer_length(&self, byte_length: usize) -> Option<usize>
         ensures { SomeIff result (byte_length + length self.now.pending + 1 ≤ usize.MAX)
             (queried max_utf16_length_in self.now byte_length) }
@@ -150,10 +155,10 @@ impl Decoder {
     }
 
     /// Returns the length in bytes of a destination that is large enough for the next `byte_length` bytes, however they
-    /// are split into calls, even if U+FFFD is written for each malformed sequence. Let n be the sum of `byte_length`, the
-    /// number of pending bytes and one. The length is three times n, or, if the encoding is UTF-16, three times half of n,
-    /// plus one. As long as a mark may decide the encoding, it is the greater of both. `None` if the length exceeds
-    /// `usize::MAX`.
+    /// are split into calls, even if U+FFFD is written for each malformed sequence. Let n be the sum of `byte_length`,
+    /// the number of pending bytes and one. The length is three times n, or, if the encoding is UTF-16, three times
+    /// half of n, plus one. As long as a mark may decide the encoding, it is the greater of both. `None` if the length
+    /// exceeds `usize::MAX`.
     pub fn max_utf8_buffer_length(&self, byte_length: usize) -> Option<usize>
         ensures { SomeIff result
             (queried max_utf8_length_with_replacement_in self.now byte_length ≤ usize.MAX)
@@ -164,9 +169,10 @@ impl Decoder {
     }
 
     /// Returns the length in bytes of a destination that is large enough for the next `byte_length` bytes, however they
-    /// are split into calls, if nothing is written for malformed sequences. Let n be the sum of `byte_length`, the number
-    /// of pending bytes and one. The length is n plus two, or, if the encoding is UTF-16, three times half of n, plus one.
-    /// As long as a mark may decide the encoding, it is the greater of both. `None` if the length exceeds `usize::MAX`.
+    /// are split into calls, if nothing is written for malformed sequences. Let n be the sum of `byte_length`, the
+    /// number of pending bytes and one. The length is n plus two, or, if the encoding is UTF-16, three times half of n,
+    /// plus one. As long as a mark may decide the encoding, it is the greater of both. `None` if the length exceeds
+    /// `usize::MAX`.
     pub fn max_utf8_buffer_length_without_replacement(&self, byte_length: usize) -> Option<usize>
         ensures { SomeIff result (queried max_utf8_length_in self.now byte_length ≤ usize.MAX)
             (queried max_utf8_length_in self.now byte_length) }
@@ -189,11 +195,11 @@ impl Decoder {
     }
 
     /// Decodes to UTF-16, with U+FFFD for each malformed sequence. Returns why the call ended, the number of bytes of
-    /// `src` read, the number of code units written, and the number of malformed sequences replaced. `last` says that no
-    /// bytes follow `src`.
+    /// `src` read, the number of code units written, and the number of malformed sequences replaced. `last` says that
+    /// no bytes follow `src`.
     ///
-    /// Pass the unread bytes again. Once a call marked last returns `InputEmpty`, the code units of all calls are the text
-    /// of the stream without its mark, in any pieces and destinations. If two code units are left, a call goes on.
+    /// Pass the unread bytes again. Once a call marked last returns `InputEmpty`, the code units of all calls are the
+    /// text of the stream without its mark, in any pieces and destinations. If two code units are left, a call goes on.
     /// A call that returns `OutputFull`, and reads and writes nothing, leaves the decoder as it was.
     pub fn decode_to_utf16(
         &mut self,
@@ -216,12 +222,12 @@ impl Decoder {
     }
 
     /// Decodes to UTF-8, with U+FFFD for each malformed sequence. Returns why the call ended, the number of bytes of
-    /// `src` read, the number of bytes written, and the number of malformed sequences replaced. `last` says that no bytes
-    /// follow `src`.
+    /// `src` read, the number of bytes written, and the number of malformed sequences replaced. `last` says that no
+    /// bytes follow `src`.
     ///
-    /// Pass the unread bytes again. Once a call marked last returns `InputEmpty`, the bytes of all calls are the text of
-    /// the stream without its mark, in any pieces and destinations. If four bytes are left, a call goes on.
-    /// A call that returns `OutputFull`, and reads and writes nothing, leaves the decoder as it was.
+    /// Pass the unread bytes again. Once a call marked last returns `InputEmpty`, the bytes of all calls are the text
+    /// of the stream without its mark, in any pieces and destinations. If four bytes are left, a call goes on. A call
+    /// that returns `OutputFull`, and reads and writes nothing, leaves the decoder as it was.
     pub fn decode_to_utf8(
         &mut self,
         src: &[u8],
@@ -242,10 +248,11 @@ impl Decoder {
         replace::<u8>(&mut self.state, src, dst, last)
     }
 
-    /// Decodes into the start of a text, with U+FFFD for each malformed sequence, and returns the same as `decode_to_utf8`.
+    /// Decodes into the start of a text, with U+FFFD for each malformed sequence, and returns the same as
+    /// `decode_to_utf8`.
     ///
-    /// `dst` is well-formed before and after. The continuation bytes directly after the output become zero, and the rest of
-    /// `dst` is unchanged.
+    /// `dst` is well-formed before and after. The continuation bytes directly after the output become zero, and the
+    /// rest of `dst` is unchanged.
     pub fn decode_to_str(
         &mut self,
         src: &[u8],
@@ -272,8 +279,8 @@ impl Decoder {
         (result, read, written, replaced)
     }
 
-    /// Decodes to UTF-16. Returns what ended the call, how many bytes of `src` it read and how many code units it wrote.
-    /// `last` says that no bytes follow `src`.
+    /// Decodes to UTF-16. Returns what ended the call, how many bytes of `src` it read and how many code units it
+    /// wrote. `last` says that no bytes follow `src`.
     ///
     /// A malformed sequence is returned as `Malformed` and nothing is written for it. Its first number is the length of
     /// the sequence, one to three bytes. The second is the number of bytes read after it, at most one, which stay
@@ -292,8 +299,8 @@ impl Decoder {
         ensures free { LeavesFree 2 self.old.pending src.now (length dst.old) result.0 result.2 }
 
         // If `src` has at most `byte_length` bytes and `dst` has the length that `max_utf16_buffer_length(byte_length)`
-        // returned, the call doesn't return `OutputFull`. The space left is enough for the rest of these bytes, even after
-        // the caller writes U+FFFD.
+        // returned, the call doesn't return `OutputFull`. The space left is enough for the rest of these bytes, even
+        // after the caller writes U+FFFD.
         ensures suffices { SufficesReporting max_utf16_length_in self.old src.now
             (length dst.old) last
             result.0 result.1 result.2 self.new }
@@ -323,10 +330,10 @@ impl Decoder {
         ensures lengths { AreReportLengths result.0 }
         ensures free { LeavesFree 4 self.old.pending src.now (length dst.old) result.0 result.2 }
 
-        // If `src` has at most `byte_length` bytes and `dst` has the length that `max_utf8_buffer_length(byte_length)` or
-        // `max_utf8_buffer_length_without_replacement(byte_length)` returned, the call doesn't return `OutputFull`, and
-        // the space left is enough for the rest of these bytes. With the first, it is enough even after the caller writes
-        // U+FFFD.
+        // If `src` has at most `byte_length` bytes and `dst` has the length that `max_utf8_buffer_length(byte_length)`
+        // or `max_utf8_buffer_length_without_replacement(byte_length)` returned, the call doesn't return `OutputFull`,
+        // and the space left is enough for the rest of these bytes. With the first, it is enough even after the caller
+        // writes U+FFFD.
         ensures suffices { SufficesReporting max_utf8_length_in self.old src.now
             (length dst.old) last
             result.0 result.1 result.2 self.new }
@@ -342,8 +349,8 @@ impl Decoder {
     /// Decodes into the start of a text, reports malformed sequences, and returns the same as
     /// `decode_to_utf8_without_replacement`.
     ///
-    /// `dst` is well-formed before and after. The continuation bytes directly after the output become zero, and the rest of
-    /// `dst` is unchanged.
+    /// `dst` is well-formed before and after. The continuation bytes directly after the output become zero, and the
+    /// rest of `dst` is unchanged.
     pub fn decode_to_str_without_replacement(
         &mut self,
         src: &[u8],
@@ -362,10 +369,10 @@ impl Decoder {
         ensures lengths { AreReportLengths result.0 }
         ensures free { LeavesFree 4 self.old.pending src.now (length dst.old) result.0 result.2 }
 
-        // If `src` has at most `byte_length` bytes and `dst` has the length that `max_utf8_buffer_length(byte_length)` or
-        // `max_utf8_buffer_length_without_replacement(byte_length)` returned, the call doesn't return `OutputFull`, and
-        // the space left is enough for the rest of these bytes. With the first, it is enough even after the caller writes
-        // U+FFFD.
+        // If `src` has at most `byte_length` bytes and `dst` has the length that `max_utf8_buffer_length(byte_length)`
+        // or `max_utf8_buffer_length_without_replacement(byte_length)` returned, the call doesn't return `OutputFull`,
+        // and the space left is enough for the rest of these bytes. With the first, it is enough even after the caller
+        // writes U+FFFD.
         ensures suffices { SufficesReporting max_utf8_length_in self.old src.now
             (length dst.old) last
             result.0 result.1 result.2 self.new }

@@ -116,8 +116,8 @@ pub(crate) fn begins_mark(bom: BomHandling, encoding: Encoding, bytes: &[u8]) ->
 }
 
 impl Encoding {
-    /// Returns the encoding whose byte order mark `bytes` starts with, and the length of the mark: three bytes for UTF-8,
-    /// or two. `None` if it starts with none.
+    /// Returns the encoding whose byte order mark `bytes` starts with, and the length of the mark: three bytes for
+    /// UTF-8, or two. `None` if it starts with none.
     pub fn for_bom(bytes: &[u8]) -> Option<(Encoding, usize)>
         ensures { result ≡ option_map (λ e. (e, length (mark e)))
             (found_mark BomHandling.Sniff Encoding.Utf8 bytes.now) }

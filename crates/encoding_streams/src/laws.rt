@@ -11,7 +11,8 @@ ghost use Rattle.std.specs.Char.Utf16.{utf16_lossy_chars};
 ghost use Rattle.encoding_text.specs.declared.utf_16.ByteOrder.{ByteOrder};
 ghost use Rattle.encoding_text.specs.declared.decoder.DecoderResult.{DecoderResult};
 ghost use Rattle.encoding_runs.specs.Calls.{Call, IsChain};
-ghost use Rattle.encoding_streams.specs.Utf16Parts.{AreBytes, bytes_of_utf16, IsPendingUtf16, StartsWithUtf16, ArePartsOfUtf16, AreFinalUtf16};
+ghost use Rattle.encoding_streams.specs.Utf16Parts.{AreBytes, bytes_of_utf16, IsPendingUtf16, StartsWithUtf16};
+ghost use Rattle.encoding_streams.specs.Utf16Parts.{ArePartsOfUtf16, AreFinalUtf16};
 ghost use Rattle.encoding_streams.specs.Utf16Decoding.{DecodeUtf16Step};
 ghost use Rattle.encoding_streams.specs.Utf16Calls.{YieldUtf16Parts};
 ghost use Rattle.encoding_streams.specs.Decoders.{DecoderState};
@@ -21,8 +22,8 @@ ghost use Rattle.encoding_streams.specs.MixedDecoderCalls.{Mixed, AreMixed, Yiel
 ghost use Rattle.encoding_streams.specs.declared.encoding.CoderResult.{CoderResult};
 
 /// In each byte order, bytes have exactly one list of parts. The bytes of the parts, joined, are these bytes. The parts
-/// of the bytes of scalar values are these characters. With U+FFFD for each malformed sequence, the parts of the bytes of
-/// code units are those of std's lossy decoding of these units.
+/// of the bytes of scalar values are these characters. With U+FFFD for each malformed sequence, the parts of the bytes
+/// of code units are those of std's lossy decoding of these units.
 ///
 /// The final parts are the first parts of the bytes followed by anything. The bytes after them are none or the start of
 /// a character. Encoding Standard, shared UTF-16 decoder.
@@ -77,8 +78,8 @@ pub fn law_utf16_calls()
 
 /// Calls of a decoder that replaces malformed sequences, over one stream, each passed the first of the unread bytes.
 /// Together they write the text of the first parts of the stream without its mark, with U+FFFD for each malformed
-/// sequence, and count these, in any pieces and destinations. Once a call marked last returns `InputEmpty`, it is the text
-/// of the whole. Encoding Standard, "decode".
+/// sequence, and count these, in any pieces and destinations. Once a call marked last returns `InputEmpty`, it is the
+/// text of the whole. Encoding Standard, "decode".
 pub fn law_decoder_calls()
     ensures utf16 { (state : DecoderState) (stream : List ℕ) (calls : List (Made ℕ))
         → AreMade encode_utf16 2 state stream calls
@@ -89,8 +90,8 @@ pub fn law_decoder_calls()
 {}
 
 /// For a given decoder, source, space and `last` a call has at most one result: what ended it, how many bytes it read,
-/// what it wrote, and the decoder after it. The same holds of a call that replaces malformed sequences, with their number.
-/// Encoding Standard, "decode".
+/// what it wrote, and the decoder after it. The same holds of a call that replaces malformed sequences, with their
+/// number. Encoding Standard, "decode".
 pub fn law_decoder_results()
     ensures utf16 { (old new other : DecoderState) (src out others : List ℕ) (room read more : ℕ)
         (last : Bool) (answer outcome : DecoderResult)
@@ -114,9 +115,9 @@ pub fn law_decoder_results()
         → (answer ≡ outcome) × (read ≡ more) × (out ≡ others) × (replaced ≡ again) × (new ≡ other) }
 {}
 
-/// Calls of a decoder of any form may be mixed over one stream, each passed the first of the unread bytes: to UTF-16 or to
-/// UTF-8, and malformed sequences reported or replaced. In sequence they yield the first parts of the stream without its
-/// mark, in any pieces and destinations. Once a call marked last returns `InputEmpty`, they are all parts. Encoding
+/// Calls of a decoder of any form may be mixed over one stream, each passed the first of the unread bytes: to UTF-16 or
+/// to UTF-8, and malformed sequences reported or replaced. In sequence they yield the first parts of the stream without
+/// its mark, in any pieces and destinations. Once a call marked last returns `InputEmpty`, they are all parts. Encoding
 /// Standard, "decode".
 pub fn law_mixed_decoder_calls()
     ensures { (state : DecoderState) (stream : List ℕ) (calls : List Mixed)

@@ -24,8 +24,8 @@ pub struct TextReader<R> {
 impl<R: Read> TextReader<R> {
     ghost use Rattle.encoding_streams.specs.TextReading.{stream_left, encoding_of, IsTextOf};
 
-    /// Creates a reader of the text of the bytes of `inner`. If they start with the byte order mark of UTF-8, UTF-16LE or
-    /// UTF-16BE, that is their encoding, and the mark is removed. Otherwise their encoding is `encoding`.
+    /// Creates a reader of the text of the bytes of `inner`. If they start with the byte order mark of UTF-8, UTF-16LE
+    /// or UTF-16BE, that is their encoding, and the mark is removed. Otherwise their encoding is `encoding`.
     pub fn new(inner: R, encoding: Encoding) -> TextReader<R>
         ensures { stream_left R.remaining result
             ≡ option_map (without_mark BomHandling.Sniff encoding) (R.remaining inner) }

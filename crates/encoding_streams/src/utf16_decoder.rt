@@ -1,5 +1,5 @@
-//! The streaming decoder of UTF-16LE and UTF-16BE: Encoding Standard, section 14.2, shared UTF-16 decoder. Its calls have
-//! the form of those of the UTF-8 decoder. The elements of `dst` past those reported as written are unchanged.
+//! The streaming decoder of UTF-16LE and UTF-16BE: Encoding Standard, section 14.2, shared UTF-16 decoder. Its calls
+//! have the form of those of the UTF-8 decoder. The elements of `dst` past those reported as written are unchanged.
 
 mod bytes;
 pub(crate) mod code_unit;
@@ -8,12 +8,14 @@ pub(crate) mod pending;
 mod units;
 pub(crate) mod window;
 
-ghost use Rattle.std.specs.Prelude.{◌≡◌, ◌≢◌, ◌<◌, ◌≤◌, ◌↔◌, ◌⊎◌, ◌+◌, ◌-◌, ◌*◌, [], length, take, drop, encode_utf8, IsTrue};
+ghost use Rattle.std.specs.Prelude.{◌≡◌, ◌≢◌, ◌<◌, ◌≤◌, ◌↔◌, ◌⊎◌, ◌+◌, ◌-◌, ◌*◌, [], length, take, drop, encode_utf8};
+ghost use Rattle.std.specs.Prelude.{IsTrue};
 ghost use Rattle.std.specs.Option.{SomeIff};
 ghost use Rattle.std.specs.Char.Escape.{encode_utf16};
 ghost use Rattle.encoding_text.specs.Decoding.{IsReport, Suffices};
 ghost use Rattle.encoding_streams.specs.Utf16Parts.{IsPendingUtf16};
-ghost use Rattle.encoding_streams.specs.Utf16Decoding.{DecodeUtf16StepInto, SufficesReplacingUtf16, max_utf16_length_from_utf16, max_utf8_length_from_utf16};
+ghost use Rattle.encoding_streams.specs.Utf16Decoding.{DecodeUtf16StepInto, SufficesReplacingUtf16};
+ghost use Rattle.encoding_streams.specs.Utf16Decoding.{max_utf16_length_from_utf16, max_utf8_length_from_utf16};
 ghost use Rattle.encoding_streams.specs.Utf16Steps.{Advances, Resumes};
 
 use code_unit::CodeUnit;
@@ -54,8 +56,8 @@ impl Utf16Decoder {
         }
     }
 
-    /// Returns a decoder that has the first `count` of these bytes pending, as `pending` returns them. If no decoder has
-    /// these, nothing is pending of the one that it returns.
+    /// Returns a decoder that has the first `count` of these bytes pending, as `pending` returns them. If no decoder
+    /// has these, nothing is pending of the one that it returns.
     #[inline(always)]
     pub fn from_pending(order: ByteOrder, bytes: [u8; 4], count: usize) -> Utf16Decoder
         ensures order { result.order ≡ order }
@@ -103,7 +105,8 @@ impl Utf16Decoder {
     }
 
     /// Returns the length in bytes of a destination that is large enough for the next `byte_length` bytes, however they
-    /// are split into calls, if nothing is written for malformed sequences. It is what `max_utf8_buffer_length` returns.
+    /// are split into calls, if nothing is written for malformed sequences. It is what `max_utf8_buffer_length`
+    /// returns.
     pub fn max_utf8_buffer_length_without_replacement(&self, byte_length: usize) -> Option<usize>
         ensures { SomeIff result
             (max_utf8_length_from_utf16 byte_length (length self.now.pending) ≤ usize.MAX)

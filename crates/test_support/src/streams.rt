@@ -169,8 +169,8 @@ impl Write for Output {
     }
 }
 
-/// Compares what it takes with a text, and keeps none of it. Takes at most `step` bytes with each call and `left` in total.
-/// Then it fails, or takes none if it has no fault.
+/// Compares what it takes with a text, and keeps none of it. Takes at most `step` bytes with each call and `left` in
+/// total. Then it fails, or takes none if it has no fault.
 #[derive(Drop)]
 pub struct Compared<'a> {
     rest: &'a [u8],

@@ -1,5 +1,6 @@
 -- What a check writes for parts, and for more of them.
-use Rattle.std.proofs.Common.{◌≡◌, ℕ, ◌+◌, ◌<◌, ◌≤◌, inl, inr, Bool, true, false, List, [], ◌∷◌, ◌++◌, length, map, take, drop, encode_utf8, refl, sym, ap, ◌∙◌, arith, subst, true≢false}
+use Rattle.std.proofs.Common.{◌≡◌, ℕ, ◌+◌, ◌<◌, ◌≤◌, inl, inr, Bool, true, false, List, [], ◌∷◌, ◌++◌, length, map, take, drop, encode_utf8, refl, sym, ap, ◌∙◌}
+use Rattle.std.proofs.Common.{arith, subst, true≢false}
 use Rattle.std.specs.List.{flat_map}
 use Rattle.std.specs.Str.{chars}
 use Rattle.std.specs.Prelude.{Option, min}
@@ -10,7 +11,8 @@ use Rattle.std.proofs.lemmas.Bool.{both_ways, cases_lt}
 use Rattle.std.proofs.lemmas.Grind.{flat_map-append}
 use Rattle.encoding_runs.specs.Parts.{Part, Character, IllFormed, bytes_of, StartsWith, malformed_count, Yields}
 use Rattle.encoding_runs.specs.Sequence.{IsPending}
-use Rattle.encoding_definitions.proofs.DecompositionLemmas.{StartsWith-append, StartsWith-bytes, malformed_count-append, malformed_count-bytes, malformed_count-characters}
+use Rattle.encoding_definitions.proofs.DecompositionLemmas.{StartsWith-append, StartsWith-bytes, malformed_count-append, malformed_count-bytes}
+use Rattle.encoding_definitions.proofs.DecompositionLemmas.{malformed_count-characters}
 use Rattle.encoding_text.specs.declared.decoder.Piece.TheVariants as piece
 use Rattle.encoding_text.proofs.BorrowedLemmas.{borrowed_yields}
 use Rattle.encoding_runs.specs.Malformations.{IsMalformation}

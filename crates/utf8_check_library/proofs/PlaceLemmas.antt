@@ -1,5 +1,6 @@
 -- Line and column after a text: by its line feeds, and by the characters after the last one.
-use Rattle.std.proofs.Common.{◌≡◌, ℕ, zero, suc, ◌+◌, ◌-◌, ◌/◌, ◌<◌, ◌≤◌, inl, inr, true, false, List, [], ◌∷◌, ◌++◌, length, map, take, drop, slice_index, nat_eq, encode_utf8, encode_utf8_all, if◌then◌else◌, refl, sym, ap, ◌∙◌, arith, subst}
+use Rattle.std.proofs.Common.{◌≡◌, ℕ, zero, suc, ◌+◌, ◌-◌, ◌/◌, ◌<◌, ◌≤◌, inl, inr, true, false, List, [], ◌∷◌, ◌++◌, length, map, take, drop, slice_index}
+use Rattle.std.proofs.Common.{nat_eq, encode_utf8, encode_utf8_all, if◌then◌else◌, refl, sym, ap, ◌∙◌, arith, subst}
 use Rattle.std.specs.Str.{chars, all_scalars, IsUtf8}
 use Rattle.std.proofs.str.Laws.{one, two, three, four}
 use lib.Utf8.{next}

@@ -1,9 +1,11 @@
 //! Checks one input, over any reader and writer.
-ghost use Rattle.std.specs.Prelude.{◌≡◌, ◌≢◌, ℕ, ◌+◌, ◌<◌, ◌≤◌, List, [], ◌++◌, length, take, IfOk, OnOk, OnErr, IfErr, IsTrue, true, ◌↔◌};
+ghost use Rattle.std.specs.Prelude.{◌≡◌, ◌≢◌, ℕ, ◌+◌, ◌<◌, ◌≤◌, List, [], ◌++◌, length, take, IfOk, OnOk, OnErr, IfErr};
+ghost use Rattle.std.specs.Prelude.{IsTrue, true, ◌↔◌};
 ghost use Rattle.std.specs.Io.KnownBytes.{Appends, Consumes, IsAtEnd, Keeps};
 ghost use Rattle.std.specs.Io.{ReadsAtMost};
 ghost use Rattle.std.specs.IoError.{error_kind};
-ghost use Rattle.utf8_check_library.specs.Checks.{Checks, StopsBy, ChecksBlock, Reports, WritesPrefixOf, length_of, malformed_in};
+ghost use Rattle.utf8_check_library.specs.Checks.{Checks, StopsBy, ChecksBlock, Reports, WritesPrefixOf, length_of};
+ghost use Rattle.utf8_check_library.specs.Checks.{malformed_in};
 
 use crate::line::write_line;
 use crate::place::{Columns, Place, START};
@@ -54,8 +56,8 @@ fn malformed_in(piece: &SearchPiece<'_>) -> u64
     }
 }
 
-/// Writes the line for a malformed sequence, moves the place to the end of the piece, and returns the number of malformed
-/// sequences.
+/// Writes the line for a malformed sequence, moves the place to the end of the piece, and returns the number of
+/// malformed sequences.
 fn list<W: Write>(
     name: &str,
     columns: Columns,
@@ -185,13 +187,14 @@ fn read_block<R: Read>(reader: &mut R, buffer: &mut [u8]) -> io::Result<usize>
     Err(io::Error::from(ErrorKind::TimedOut))
 }
 
-/// Checks all bytes of the reader. In the mode `List`, writes a line for each malformed sequence, in order: the name, the
-/// line, the column, its bytes, why it is malformed, and the offset of its first byte. Returns the number of malformed
-/// sequences. In the mode `Quiet`, returns 1 after the first one.
+/// Checks all bytes of the reader. In the mode `List`, writes a line for each malformed sequence, in order: the name,
+/// the line, the column, its bytes, why it is malformed, and the offset of its first byte. Returns the number of
+/// malformed sequences. In the mode `Quiet`, returns 1 after the first one.
 ///
-/// Reads again if a read is interrupted. Returns `Fault::Read` after any other read that fails: the lines for what was read
-/// are written. Returns `Fault::Write` after the first write or flush that fails: a prefix of the lines for what was read is
-/// written. Flushes the writer before each read but the first, and flushes nothing at the end. Allocates no memory.
+/// Reads again if a read is interrupted. Returns `Fault::Read` after any other read that fails: the lines for what was
+/// read are written. Returns `Fault::Write` after the first write or flush that fails: a prefix of the lines for what
+/// was read is written. Flushes the writer before each read but the first, and flushes nothing at the end. Allocates no
+/// memory.
 pub fn check<R: Read, W: Write>(
     name: &str,
     columns: Columns,

@@ -1,5 +1,5 @@
-//! What the program `utf8_check` does, apart from files and messages: it reads its arguments, and checks a stream. Reports
-//! each malformed sequence: its line and column, its bytes, why it is malformed, and its offset.
+//! What the program `utf8_check` does, apart from files and messages: it reads its arguments, and checks a stream.
+//! Reports each malformed sequence: its line and column, its bytes, why it is malformed, and its offset.
 #![tactic(auto)]
 
 pub mod arguments;

@@ -1,6 +1,7 @@
 //! Streams of the program: an array between the engine and each slow stream, to make fewer system calls.
 
-ghost use Rattle.std.specs.Prelude.{◌<◌, length, IsTrue, ◌≡◌, [], ◌++◌, ◌-◌, ◌≤◌, true, false, List, ℕ, take, IfOk, OnOk, OnErr};
+ghost use Rattle.std.specs.Prelude.{◌<◌, length, IsTrue, ◌≡◌, [], ◌++◌, ◌-◌, ◌≤◌, true, false, List, ℕ, take, IfOk};
+ghost use Rattle.std.specs.Prelude.{OnOk, OnErr};
 ghost use Rattle.std.specs.Io.KnownBytes.{prepend_known, Keeps, WriteAppends, append_known};
 
 use held::Held;

@@ -2,7 +2,9 @@
 ghost use Rattle.std.specs.Prelude.{◌≡◌, ◌↔◌, ℕ, ◌+◌, ◌<◌, ◌≤◌, [], List, length, take, IsTrue};
 ghost use Rattle.std.specs.Char.{IsScalar};
 ghost use Rattle.encoding_definitions.specs.Prefixes.{WritesPrefix};
-ghost use Rattle.encoding_streams.specs.Decoders.{IsReportingCall, SufficesReporting, SufficesBetweenReports, decoding, max_utf16_length_in, max_utf8_length_in, max_utf8_length_with_replacement_in};
+ghost use Rattle.encoding_streams.specs.Decoders.{IsReportingCall, SufficesReporting, SufficesBetweenReports, decoding};
+ghost use Rattle.encoding_streams.specs.Decoders.{max_utf16_length_in, max_utf8_length_in};
+ghost use Rattle.encoding_streams.specs.Decoders.{max_utf8_length_with_replacement_in};
 ghost use Rattle.encoding_streams.specs.declared.encoding.Encoding.{Encoding};
 ghost use Rattle.encoding_streams.specs.DecoderSteps.{state_of};
 ghost use Rattle.encoding_streams.specs.ExactCalls.{StepIn};

@@ -1,7 +1,8 @@
 //! The lengths that suffice.
 ghost use Rattle.std.specs.Prelude.{◌+◌, ◌≤◌};
 ghost use Rattle.std.specs.Option.{SomeIff};
-ghost use Rattle.encoding_streams.specs.Decoders.{queried_in, max_utf16_length_in, max_utf8_length_in, max_utf8_length_with_replacement_in};
+ghost use Rattle.encoding_streams.specs.Decoders.{queried_in, max_utf16_length_in, max_utf8_length_in};
+ghost use Rattle.encoding_streams.specs.Decoders.{max_utf8_length_with_replacement_in};
 
 use crate::encoding::{BomHandling, Encoding};
 
@@ -67,7 +68,8 @@ pub(super) fn utf16_query(
     }
 }
 
-/// Returns the queried length in UTF-8 of a decoder, with U+FFFD for each malformed sequence: the greatest of the encodings that a mark may decide.
+/// Returns the queried length in UTF-8 of a decoder, with U+FFFD for each malformed sequence: the greatest of the
+/// encodings that a mark may decide.
 pub(super) fn replaced_query(
     bom: BomHandling,
     encoding: Encoding,
@@ -91,7 +93,8 @@ pub(super) fn replaced_query(
     }
 }
 
-/// Returns the queried length in UTF-8 of a decoder, with nothing for malformed sequences: the greatest of the encodings that a mark may decide.
+/// Returns the queried length in UTF-8 of a decoder, with nothing for malformed sequences: the greatest of the
+/// encodings that a mark may decide.
 pub(super) fn utf8_query(
     bom: BomHandling,
     encoding: Encoding,

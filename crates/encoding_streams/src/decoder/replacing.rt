@@ -9,8 +9,8 @@ use super::state::{State, decode};
 use crate::encoding::CoderResult;
 use encoding_text::decoder::DecoderResult;
 
-/// Makes one call that reports, and writes U+FFFD for the malformed sequence. Returns why the call ended, or `None` after
-/// a report, the number of bytes read and the number of code units written.
+/// Makes one call that reports, and writes U+FFFD for the malformed sequence. Returns why the call ended, or `None`
+/// after a report, the number of bytes read and the number of code units written.
 #[inline(always)]
 fn replace_one<U: Output>(
     state: &mut State,
@@ -77,8 +77,8 @@ fn replace_all<U: Output>(
     }
 }
 
-/// Decodes, with U+FFFD for each malformed sequence. Returns why the call ended, the number of bytes read, the number of
-/// code units written, and the number of malformed sequences. Most calls meet none, and end without the loop.
+/// Decodes, with U+FFFD for each malformed sequence. Returns why the call ended, the number of bytes read, the number
+/// of code units written, and the number of malformed sequences. Most calls meet none, and end without the loop.
 #[inline(always)]
 pub(super) fn replace<U: Output>(
     state: &mut State,

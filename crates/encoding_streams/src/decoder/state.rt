@@ -1,9 +1,11 @@
 //! What a decoder keeps between calls, and its calls that report malformed sequences.
-ghost use Rattle.std.specs.Prelude.{take, ◌≢◌, ◌⊎◌, ◌-◌, false, ◌≡◌, ◌↔◌, ℕ, ◌<◌, ◌≤◌, true, List, [], ◌++◌, length, IsTrue};
+ghost use Rattle.std.specs.Prelude.{take, ◌≢◌, ◌⊎◌, ◌-◌, false, ◌≡◌, ◌↔◌, ℕ, ◌<◌, ◌≤◌, true, List, [], ◌++◌, length};
+ghost use Rattle.std.specs.Prelude.{IsTrue};
 ghost use Rattle.encoding_definitions.specs.Sequence.{IsIncomplete};
 ghost use Rattle.encoding_streams.specs.Decoders.{decoding};
 ghost use Rattle.encoding_streams.specs.DecoderSteps.{IsSniffed, IsStop, LeavesFree, Reports, shown, state_of};
-ghost use Rattle.encoding_streams.specs.ExactCalls.{AreReportLengths, Decodes, IsExactCall, IsIdle, IsPendingIn, IsPendingOf, reported_with};
+ghost use Rattle.encoding_streams.specs.ExactCalls.{AreReportLengths, Decodes, IsExactCall, IsIdle, IsPendingIn};
+ghost use Rattle.encoding_streams.specs.ExactCalls.{IsPendingOf, reported_with};
 
 use super::inner::{Inner, Output};
 use super::is_utf8;

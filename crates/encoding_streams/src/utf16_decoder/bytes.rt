@@ -38,7 +38,8 @@ fn has_near_fault(order: ByteOrder, src: &[u8]) -> bool {
     (units.simd_eq(u16x8::splat(high)) ^ next.simd_eq(u16x8::splat(low))).any()
 }
 
-/// Writes the first character, if it is whole and there is space for any. Returns how many bytes it read and how many it wrote.
+/// Writes the first character, if it is whole and there is space for any. Returns how many bytes it read and how many
+/// it wrote.
 #[inline(always)]
 fn convert_one(order: ByteOrder, src: &[u8], dst: &mut [u8]) -> (usize, usize)
     ensures { Advances order encode_utf8 [] src.now dst.old dst.new
@@ -74,8 +75,8 @@ fn convert_few(order: ByteOrder, src: &[u8], dst: &mut [u8]) -> (usize, usize)
     (read, written)
 }
 
-/// Converts the first characters: one by one if an unpaired surrogate is near, or a pair begins a short text, since blocks cost more
-/// then. Returns how many bytes it read and how many it wrote.
+/// Converts the first characters: one by one if an unpaired surrogate is near, or a pair begins a short text, since
+/// blocks cost more then. Returns how many bytes it read and how many it wrote.
 #[inline(always)]
 fn convert_some(order: ByteOrder, src: &[u8], dst: &mut [u8]) -> (usize, usize)
     ensures { Advances order encode_utf8 [] src.now dst.old dst.new
@@ -87,8 +88,8 @@ fn convert_some(order: ByteOrder, src: &[u8], dst: &mut [u8]) -> (usize, usize)
     convert_utf16_bytes_to_utf8_up_to_invalid(order, src, dst)
 }
 
-/// Converts whole characters from the start of `src`, up to the first that doesn't fit, or before an unpaired surrogate or the
-/// end. Returns how many bytes it read and how many it wrote.
+/// Converts whole characters from the start of `src`, up to the first that doesn't fit, or before an unpaired surrogate
+/// or the end. Returns how many bytes it read and how many it wrote.
 ///
 /// In damaged text most runs are short. If ASCII ends at the damage, no block is tried.
 pub(super) fn convert_bytes(order: ByteOrder, src: &[u8], dst: &mut [u8]) -> (usize, usize)

@@ -23,12 +23,13 @@ pub(crate) trait CodeUnit: Copy {
         ensures dst_length { result ≡ need }
         ensures holds_any { (c : ℕ) → IsScalar c → length (encode c) ≤ need };
 
-    /// Converts the first characters of UTF-16LE or UTF-16BE, up to the first that doesn't fit into `dst`, or before an unpaired
-    /// surrogate or the end. Returns how many bytes it read and how many code units it wrote.
+    /// Converts the first characters of UTF-16LE or UTF-16BE, up to the first that doesn't fit into `dst`, or before an
+    /// unpaired surrogate or the end. Returns how many bytes it read and how many code units it wrote.
     fn convert(order: ByteOrder, src: &[u8], dst: &mut [Self]) -> (usize, usize)
         ensures { Advances order encode [] src.now dst.old dst.new result.0 result.1 [] };
 
-    /// Writes the first characters of `units`, as many as fit into `dst`. Returns how many code units it read and wrote.
+    /// Writes the first characters of `units`, as many as fit into `dst`. Returns how many code units it read and
+    /// wrote.
     fn write(units: &[u16], dst: &mut [Self]) -> (usize, usize)
         requires valid { IsValidUtf16 units.now }
         ensures { WritesUnits encode units.now dst.old dst.new result.0 result.1 };

@@ -1,5 +1,6 @@
-//! How many code units precede the first that is unpaired, by vectors. Each unit is judged by itself and the one before it, which is
-//! loaded separately. They are read where they are, and nothing after the sixteen with the unpaired one is tested for pairs.
+//! How many code units precede the first that is unpaired, by vectors. Each unit is judged by itself and the one before
+//! it, which is loaded separately. They are read where they are, and nothing after the sixteen with the unpaired one is
+//! tested for pairs.
 
 ghost use Rattle.std.specs.Prelude.{◌≡◌, false, ◌+◌, ◌<◌, ◌≤◌, length, take, drop, slice_index, IsTrue};
 ghost use Rattle.encoding_definitions.specs.Surrogates.{IsValidUtf16};
@@ -15,8 +16,8 @@ use std::simd::prelude::*;
 /// How many strides are tested for pairs at once after a block with a surrogate, since surrogates cluster.
 const PAIRED_STRIDES: usize = 32;
 
-/// Returns the mask of those of the sixteen code units from index `at` on that are a high surrogate without a low one after it, or
-/// the reverse.
+/// Returns the mask of those of the sixteen code units from index `at` on that are a high surrogate without a low one
+/// after it, or the reverse.
 #[inline(always)]
 fn faults<S: CodeUnits>(src: S, at: usize) -> u64
     requires within { (at + 17 ≤ length (S.units src)) × (at + 17 ≤ usize.MAX) }
@@ -30,7 +31,8 @@ fn faults<S: CodeUnits>(src: S, at: usize) -> u64
     (low ^ high).to_bitmask()
 }
 
-/// Returns whether each of the 64 code units from index `at` on is a low surrogate if and only if it follows a high one, by one test.
+/// Returns whether each of the 64 code units from index `at` on is a low surrogate if and only if it follows a high
+/// one, by one test.
 #[inline(always)]
 fn are_paired<S: CodeUnits>(src: S, at: usize) -> bool
     requires within { (0 < at) × (at + 64 ≤ length (S.units src)) × (at + 64 ≤ usize.MAX) }
@@ -44,8 +46,8 @@ fn are_paired<S: CodeUnits>(src: S, at: usize) -> bool
     none == 0
 }
 
-/// Returns how many of the sixteen code units from index `at` on precede the first that is a low surrogate without following a high
-/// one, or follows a high one without being a low one.
+/// Returns how many of the sixteen code units from index `at` on precede the first that is a low surrogate without
+/// following a high one, or follows a high one without being a low one.
 #[inline(always)]
 fn paired_run<S: CodeUnits>(src: S, at: usize) -> usize
     requires within { (0 < at) × (at + 16 ≤ length (S.units src)) × (at + 16 ≤ usize.MAX) }
@@ -76,7 +78,8 @@ fn has_no_surrogate<S: CodeUnits>(src: S, at: usize) -> bool
     !lowest.simd_lt(u16x16::splat(0x800)).any()
 }
 
-/// Skips blocks without a surrogate, given that the code units before index `at` are paired. Returns the index that it reaches.
+/// Skips blocks without a surrogate, given that the code units before index `at` are paired. Returns the index that it
+/// reaches.
 #[inline(always)]
 fn skip_blocks<S: CodeUnits>(src: S, at: usize) -> usize
     requires within { (0 < at) × (at ≤ length (S.units src)) }
@@ -115,8 +118,8 @@ fn paired_prefix_of_few<S: CodeUnits>(src: S) -> usize
     at
 }
 
-/// Returns how many code units precede the first that is a low surrogate without following a high one, or follows a high one without
-/// being a low one.
+/// Returns how many code units precede the first that is a low surrogate without following a high one, or follows a
+/// high one without being a low one.
 #[inline(always)]
 fn paired_prefix<S: CodeUnits>(src: S) -> usize
     ensures within { result ≤ length (S.units src) }

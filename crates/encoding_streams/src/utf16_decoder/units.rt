@@ -38,8 +38,8 @@ fn convert_piece(order: ByteOrder, src: &[u8], dst: &mut [u16]) -> (usize, usize
     decode_utf16_bytes(order, &src[..2 * valid], dst)
 }
 
-/// Converts whole characters from the start of `src`, up to the first that doesn't fit, or before an unpaired surrogate or the
-/// end. Returns how many bytes it read, and how many code units it wrote.
+/// Converts whole characters from the start of `src`, up to the first that doesn't fit, or before an unpaired surrogate
+/// or the end. Returns how many bytes it read, and how many code units it wrote.
 pub(super) fn convert_units(order: ByteOrder, src: &[u8], dst: &mut [u16]) -> (usize, usize)
     ensures { Advances order encode_utf16 [] src.now dst.old dst.new
         result.0 result.1 [] }

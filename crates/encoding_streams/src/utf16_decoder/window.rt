@@ -70,8 +70,8 @@ pub(crate) fn is_incomplete(order: ByteOrder, bytes: &[u8]) -> bool
     matches!(first_of(order, bytes), First::Incomplete)
 }
 
-/// Returns whether the bytes have no character that is worth a conversion: they are fewer than four, or start with an unpaired
-/// surrogate.
+/// Returns whether the bytes have no character that is worth a conversion: they are fewer than four, or start with an
+/// unpaired surrogate.
 #[inline(always)]
 pub(super) fn is_for_resume(order: ByteOrder, src: &[u8]) -> bool
     ensures { IsTrue result → 4 ≤ length src.now
@@ -86,7 +86,8 @@ pub(super) fn is_for_resume(order: ByteOrder, src: &[u8]) -> bool
     }
 }
 
-/// Returns the scalar value of the first character and its length in bytes, or `None` if the bytes start with no whole one.
+/// Returns the scalar value of the first character and its length in bytes, or `None` if the bytes start with no whole
+/// one.
 #[inline(always)]
 pub(super) fn first_scalar(order: ByteOrder, src: &[u8]) -> Option<(u32, usize)>
     ensures { IfSome result (λ first. IsScalar first.0 × (first.1 ≤ length src.now)

@@ -1,5 +1,6 @@
 //! A queue of bytes in an array.
-ghost use Rattle.std.specs.Prelude.{◌≡◌, ℕ, ◌-◌, ◌<◌, ◌≤◌, min, List, [], ◌++◌, length, drop, take, IsTrue, OnOk, OnErr};
+ghost use Rattle.std.specs.Prelude.{◌≡◌, ℕ, ◌-◌, ◌<◌, ◌≤◌, min, List, [], ◌++◌, length, drop, take, IsTrue, OnOk};
+ghost use Rattle.std.specs.Prelude.{OnErr};
 ghost use Rattle.std.specs.Bool.{IsFalse};
 ghost use Rattle.std.specs.Io.KnownBytes.{Keeps, IsAtEnd, append_known, prepend_known};
 
@@ -81,7 +82,7 @@ impl<const N: usize> Held<N> {
     pub(crate) fn push(&mut self, piece: &[u8]) -> bool
         ensures taken { IsTrue result → self.new ≡ self.old ++ piece.now }
         ensures refused { IsFalse result → self.new ≡ self.old }
-        ensures dst_length { self.old ≡ [] → length piece.now ≤ N → IsTrue result }
+        ensures capacity { self.old ≡ [] → length piece.now ≤ N → IsTrue result }
     {
         if piece.len() > N - self.end {
             return false;

@@ -1,8 +1,11 @@
 use Rattle.std.proofs.Common.{◌≡◌, ◌≢◌, ℕ, ◌+◌, ◌<◌, ◌≤◌, ◌*◌, true, List, ◌++◌, length, take, min, refl, sym, ap, ◌∙◌, arith}
 use Rattle.std.proofs.lemmas.Bool.{both_ways, eqb-true, eqb-false}
 use Rattle.std.proofs.lemmas.List.{length-append, length-take, length-take-le}
-use Rattle.encoding_streams.proofs.Utf16WindowLemmas.{at_most_two, window_full, fewer_pending, window_advances, unpaired_full, unpaired_read, unpaired_pending, pending_whole, cut_full, cut_report}
-use Rattle.encoding_streams.proofs.utf16_decoder.resume.Goals.{then-not-last-via-then-not-last, then-not-last-via-else-not-last+then-count-eq0, else-not-is_empty-via-then-not-is_empty+else-dst-max_units_per_scalar-2, else-not-is_empty-via-else-not-is_empty}
+use Rattle.encoding_streams.proofs.Utf16WindowLemmas.{at_most_two, window_full, fewer_pending, window_advances, unpaired_full, unpaired_read, unpaired_pending}
+use Rattle.encoding_streams.proofs.Utf16WindowLemmas.{pending_whole, cut_full, cut_report}
+use Rattle.encoding_streams.proofs.utf16_decoder.resume.Goals.{then-not-last-via-then-not-last, then-not-last-via-else-not-last+then-count-eq0}
+use Rattle.encoding_streams.proofs.utf16_decoder.resume.Goals.{else-not-is_empty-via-then-not-is_empty+else-dst-max_units_per_scalar-2}
+use Rattle.encoding_streams.proofs.utf16_decoder.resume.Goals.{else-not-is_empty-via-else-not-is_empty}
 use Rattle.encoding_streams.proofs.utf16_decoder.resume.Goals as goal
 
 window_length : (p src window : List ℕ) (count : ℕ) → count ≡ min 4 (length p + length src) → take count window ≡ take 4 (p ++ src)

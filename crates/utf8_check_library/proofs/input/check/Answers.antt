@@ -2,7 +2,8 @@ use Rattle.std.proofs.Common.{◌≡◌, ◌<◌, ℕ, List, [], arith, false, t
 use Rattle.std.proofs.KnownBytes.{Appends-nil, Consumes-nil, Keeps-refl}
 use Rattle.std.proofs.lemmas.Bool.Decides.{nat_tests}
 use Rattle.std.proofs.lemmas.List.{length-take}
-use Rattle.utf8_check_library.proofs.CheckLemmas.{checks_nothing, flush_failed, input_count, input_ended, input_enough, input_grows, input_length, input_next, input_place, input_stopped, not_ended, write_failed}
+use Rattle.utf8_check_library.proofs.CheckLemmas.{checks_nothing, flush_failed, input_count, input_ended, input_enough, input_grows, input_length, input_next}
+use Rattle.utf8_check_library.proofs.CheckLemmas.{input_place, input_stopped, not_ended, write_failed}
 use Rattle.utf8_check_library.proofs.input.check.Goals as goal
 
 pub loop-columns-init : goal.loop-columns-init

@@ -3,7 +3,8 @@ use Rattle.std.proofs.KnownBytes.{Appends-nil}
 use Rattle.std.proofs.lemmas.List.{length-append, length-drop, take_rest}
 use Rattle.encoding_runs.proofs.SearchLemmas.{step_finds}
 use Rattle.utf8_check_library.proofs.LineLemmas.{on_err}
-use Rattle.utf8_check_library.proofs.CheckLemmas.{block_ended, block_enough, block_failed, block_place, block_step, checks_nothing, count_fits, not_ended, piece_fits, reports_few}
+use Rattle.utf8_check_library.proofs.CheckLemmas.{block_ended, block_enough, block_failed, block_place, block_step, checks_nothing, count_fits, not_ended}
+use Rattle.utf8_check_library.proofs.CheckLemmas.{piece_fits, reports_few}
 use Rattle.utf8_check_library.proofs.input.check_block.Goals as goal
 
 pub loop-at-init : goal.loop-at-init

@@ -2,7 +2,8 @@ use Rattle.std.proofs.Common.{◌≡◌, length, sym, ap, ◌∙◌, arith}
 use Rattle.std.proofs.lemmas.Bool.Decides.{nat_tests}
 use Rattle.std.proofs.lemmas.List.{nil_from_length}
 use Rattle.encoding_streams.proofs.PendingCallLemmas.{at_most_three}
-use Rattle.encoding_streams.proofs.decoder.Decoder.from_state.Goals.{then-is_empty-via-then-is_empty, then-is_empty-via-else-is_empty+then-pending-gt3, then-is_empty-via-else-is_empty+else-pending-gt3+then-not-is_pending_of}
+use Rattle.encoding_streams.proofs.decoder.Decoder.from_state.Goals.{then-is_empty-via-then-is_empty, then-is_empty-via-else-is_empty+then-pending-gt3}
+use Rattle.encoding_streams.proofs.decoder.Decoder.from_state.Goals.{then-is_empty-via-else-is_empty+else-pending-gt3+then-not-is_pending_of}
 use Rattle.encoding_streams.proofs.decoder.Decoder.from_state.Goals as goal
 
 pub returns-then-is_empty-clause-state : goal.returns-then-is_empty-clause-state

@@ -1,7 +1,8 @@
 use Rattle.std.proofs.Common.{refl, sym, subst, arith}
 use Rattle.encoding_definitions.specs.Utf16.{IsHighSurrogate}
 use Rattle.encoding_streams.proofs.Utf16PairedLemmas.{valid_before, valid_to}
-use Rattle.encoding_streams.proofs.utf16_decoder.paired.valid_prefix.Goals.{else-paired-gt0-via-then-paired-gt0+else-is_high_surrogate, else-paired-gt0-via-else-paired-gt0}
+use Rattle.encoding_streams.proofs.utf16_decoder.paired.valid_prefix.Goals.{else-paired-gt0-via-then-paired-gt0+else-is_high_surrogate}
+use Rattle.encoding_streams.proofs.utf16_decoder.paired.valid_prefix.Goals.{else-paired-gt0-via-else-paired-gt0}
 use Rattle.encoding_streams.proofs.utf16_decoder.paired.valid_prefix.Goals as goal
 
 pub returns-then-is_high_surrogate-clause-valid : goal.returns-then-is_high_surrogate-clause-valid

@@ -5,8 +5,8 @@ use Rattle.encoding_definitions.proofs.PrefixesLemmas.{WritesPrefix_after}
 use Rattle.utf8_repair.proofs.streams.held.Held.push.Goals as goal
 
 -- an empty queue has space for `N` bytes
-pub returns-then-piece-self-clause-dst_length : goal.returns-then-piece-self-clause-dst_length
-returns-then-piece-self-clause-dst_length g c = λ none fits.
+pub returns-then-piece-self-clause-capacity : goal.returns-then-piece-self-clause-capacity
+returns-then-piece-self-clause-capacity g c = λ none fits.
     let held = c.self.inside in
     let i = c.self.invariant in
     let size : length held.bytes ≡ g.row.N = search rules in
