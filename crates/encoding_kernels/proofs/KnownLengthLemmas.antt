@@ -1,5 +1,5 @@
 -- The characters of a text, and the code units of its UTF-16, are counted by its bytes.
-use Rattle.std.proofs.Common.{Bool, ◌≡◌, ℕ, ◌+◌, ◌<◌, ◌≤◌, true, false, ◌&&◌, cond, eqb, leb, bit_and, get_or, ◌^◌, ◌%◌, List, [], ◌∷◌, ◌++◌, drop, length, slice_index, nat_le, encode_utf8, encode_utf8_all, refl, subst, ap, arith}
+use Rattle.std.proofs.Common.{Bool, ◌≡◌, ℕ, zero, suc, ◌+◌, ◌<◌, ◌≤◌, true, false, ◌&&◌, cond, eqb, leb, bit_and, get_or, ◌^◌, ◌%◌, List, [], ◌∷◌, ◌++◌, drop, length, slice_index, nat_le, encode_utf8, encode_utf8_all, refl, subst, ap, arith}
 use Rattle.std.specs.Char.{IsScalar}
 use lib.Utf8.{scalar}
 use Rattle.std.specs.Char.Escape.{encode_utf16}
@@ -44,6 +44,19 @@ one false b l n = grind (arith, nat_tests)
 four : (pairs : Bool) (b : ℕ) → 0xF0 ≤ b → begins_by pairs b ≡ 1 + bool_byte (pairs && true)
 four true b l = grind (arith, nat_tests)
 four false b l = grind (arith, nat_tests)
+
+pub ascii_begun : (pairs : Bool) (xs : List ℕ) (n : ℕ) → n ≤ length xs → ((k : ℕ) → k < n → slice_index xs k < 0x80)
+    → sum_over_suffixes (begins pairs) xs ≡ n + sum_over_suffixes (begins pairs) (drop n xs)
+unfolding sum_over_suffixes
+ascii_begun pairs xs zero l h = omega arith
+ascii_begun pairs [] (suc n) l h = absurd (omega (arith, l))
+ascii_begun pairs (x ∷ xs) (suc n) l h =
+    let low : x < 0x80 = h 0 (omega arith) in
+    omega (
+      arith,
+      one pairs x (omega arith) (λ t. omega (arith, t.0)),
+      ascii_begun pairs xs n (omega arith) (λ k m. h (suc k) (omega arith)),
+    )
 
 pub second_continues : (a b : ℕ) → IsSecond a b → IsContinuation b
 second_continues a b s = grind (arith, nat_tests)

@@ -10,8 +10,9 @@ ghost use Rattle.encoding_kernels.specs.Lengths.{sum_over_suffixes};
 ghost use Rattle.encoding_kernels.specs.KnownLengths.{begins, begins_by, begins_few};
 
 use crate::scalar::is_continuation;
+use crate::simd::scan::prefix_len_below;
 use crate::simd::sum::{Terms, sum_from};
-use crate::simd::width::{BLOCK, STRIDE};
+use crate::simd::width::{ASCII_END, BLOCK, STRIDE};
 use crate::tuning::LATIN1_LENGTH_SPAN;
 use std::simd::Simd;
 use std::simd::prelude::*;
@@ -92,7 +93,8 @@ fn count_begun<const PAIRS: bool>(bytes: &[u8]) -> usize
     ensures { result ≡ sum_over_suffixes (begins PAIRS) bytes.now }
 {
     let terms = Begun::<PAIRS> { bytes };
-    sum_from::<BLOCK, STRIDE, LATIN1_LENGTH_SPAN, _, _>(&terms, &terms, 0)
+    let ascii = prefix_len_below(bytes, ASCII_END);
+    ascii + sum_from::<BLOCK, STRIDE, LATIN1_LENGTH_SPAN, _, _>(&terms, &terms, ascii)
 }
 
 /// Returns the number of characters of a text.
