@@ -165,6 +165,25 @@ static bool ends_in_surrogate(const decoding *d, size_t start)
            && encoding_text_decoder_encoding(&d->decoder) == ENCODING_TEXT_UTF_8;
 }
 
+/* Whether two of the three bytes that a surrogate would have are pending. `keep` leaves them there, but the library's decoder
+ * takes none that aren't the start of a character. */
+static bool has_surrogate(const encoding_text_decoder *decoder)
+{
+    return decoder->count == 2 && decoder->pending[0] == 0xED && (decoder->pending[1] & 0xE0) == 0xA0
+           && decoder->bom == ENCODING_TEXT_BOM_OFF && decoder->encoding == ENCODING_TEXT_UTF_8;
+}
+
+/* Decodes the pending bytes as the start of the input. */
+static bool begin_with_pending(decoding *d)
+{
+    if (!join_pending(d)) {
+        return false;
+    }
+    d->offset = 0;
+    encoding_text_decoder_new(&d->decoder, ENCODING_TEXT_UTF_8, ENCODING_TEXT_BOM_OFF);
+    return true;
+}
+
 /* Keeps the bytes from an offset on as pending. */
 static void keep(decoding *d, size_t start)
 {
@@ -290,7 +309,7 @@ PyObject *decode_text(encoding_text_decoder *decoder, PyObject *input, bool last
     d.handler = d.error = NULL;
     output_begin(&d.out);
     PyObject *text = NULL;
-    if (decode_all(&d)) {
+    if ((!has_surrogate(&d.before) || begin_with_pending(&d)) && decode_all(&d)) {
         text = d.has_surrogates ? wide_text(d.out.text, d.out.written)
                                 : PyUnicode_DecodeUTF8((const char *)d.out.text, (Py_ssize_t)d.out.written, NULL);
     }

@@ -60,8 +60,8 @@ static size_t room(size_t length, size_t factor)
     }
 }
 
-/* Each macro is a row: the function, its source (any_bytes, sound_bytes, any_units), and for a conversion the element of its
- * destination and how many of these one element of the source may need. */
+/* Each macro is a row: the function, its source (any_bytes, sound_bytes, latin1_bytes, any_units), and for a conversion the
+ * element of its destination and how many of these one element of the source may need. */
 #define SCAN(name, source) \
     do { \
         begin(#name); \
@@ -95,6 +95,14 @@ static size_t room(size_t length, size_t factor)
 #define COUNTED(name, source, element, factor) \
     CONVERT(name, source, element, factor, (add(got.read), add(got.written), add(got.replaced)))
 
+/* A text whose characters are up to U+00FF. */
+static bytes latin1_bytes(void)
+{
+    bytes text = sound_bytes();
+    text.length = encoding_text_mem_utf8_latin1_up_to(text.start, text.length);
+    return text;
+}
+
 static void scan_bytes(void)
 {
     SCAN(ascii_valid_up_to, any_bytes);
@@ -110,6 +118,9 @@ static void scan_bytes(void)
     SCAN(mem_str_latin1_up_to_unchecked, sound_bytes);
     SCAN(mem_is_str_bidi_unchecked, sound_bytes);
     SCAN(mem_check_str_for_latin1_and_bidi_unchecked, sound_bytes);
+    SCAN(mem_latin1_length_from_utf8_unchecked, latin1_bytes);
+    SCAN(mem_utf16_length_from_utf8_unchecked, sound_bytes);
+    SCAN(utf8_count_unchecked, sound_bytes);
     SCAN(mem_utf16_length_from_utf8, any_bytes);
     SCAN(mem_utf8_length_from_latin1, any_bytes);
     SCAN(mem_latin1_length_from_utf8, any_bytes);
