@@ -358,7 +358,8 @@ size_t encoding_text_mem_convert_str_to_utf16_unchecked(const uint8_t *src, size
  * @return the number of characters of the text, which is its length in Latin1 */
 size_t encoding_text_mem_latin1_length_from_utf8_unchecked(const uint8_t *src, size_t src_length);
 
-/** Takes less time than the function without `_unchecked`. If src is ill-formed, the behaviour is undefined.
+/** Takes less time than the function without `_unchecked` for characters beyond ASCII. If src is ill-formed, the behaviour is
+ * undefined.
  * @param src,src_length the source, in bytes.
  * @return the length of the text in UTF-16 code units */
 size_t encoding_text_mem_utf16_length_from_utf8_unchecked(const uint8_t *src, size_t src_length);
